@@ -1,0 +1,75 @@
+-- What each operation gives. The value is computed over all integers, and only then compared with the number range.
+use Rattle.std.specs.Prelude.{ℕ, zero, suc, ◌+◌, ◌<◌, ◌^◌, ◌%◌, ◌==◌, nat_lt, ℤ, pos, negsuc, ◌+ℤ◌, ◌-ℤ◌, ◌*ℤ◌, neg_ℤ, unsigned_abs, int_lt, int_le, int_div, int_rem, if◌then◌else◌, Bool, true, false, cond, not}
+use Rattle.std.specs.declared.option.Option.{Option}
+use Rattle.std.specs.declared.option.Option.TheVariants.{Some, None}
+use Rattle.std.specs.declared.result.Result.{Result}
+use Rattle.std.specs.declared.result.Result.TheVariants.{Ok, Err}
+use Rattle.std.specs.Int.{int_max, int_min, int_pow}
+use Rattle.checked_numbers.specs.declared.ops.Op.{Op}
+use Rattle.checked_numbers.specs.declared.ops.Op.TheVariants.{Mov, Add, Sub, Trn, Mul, Div, Dif, Mod, Pow, Gcd, Bin, Equ, Neq, Leq, Geq, Min, Max}
+use Rattle.checked_numbers.specs.declared.ops.NumFault.{NumFault}
+use Rattle.checked_numbers.specs.declared.ops.NumFault.TheVariants.{Overflow, DivideByZero}
+use Rattle.checked_numbers.specs.Numbers.{is_number}
+
+-- the value where it is a number
+abbrev pub in_range : ℤ → Result ℤ NumFault
+in_range z = if is_number z then Ok z else Err Overflow
+
+abbrev pub is_zero : ℤ → Bool
+is_zero z = unsigned_abs z == 0
+
+abbrev pub int_eq : ℤ → ℤ → Bool
+int_eq a b = is_zero (a -ℤ b)
+
+abbrev pub of_test : Bool → ℤ
+of_test b = if b then pos 1 else pos 0
+
+-- the ways to choose k of n, by Pascal's rule
+abbrev pub choose : ℕ → ℕ → ℕ
+choose n zero = 1
+choose zero (suc k) = 0
+choose (suc n) (suc k) = choose n k + choose n (suc k)
+
+abbrev pub sign : ℕ → ℤ
+sign n = if n % 2 == 0 then pos 1 else negsuc 0
+
+abbrev pub binomial : ℤ → ℤ → ℤ
+binomial a (negsuc k) = pos 0
+binomial (pos n) (pos k) = pos (choose n k)
+binomial (negsuc n) (pos k) = sign k *ℤ pos (choose (n + k) k)
+
+-- a to the power b; none where a is 0 and b is negative
+abbrev pub power : ℤ → ℤ → Option ℤ
+power a (pos n) = Some (int_pow a n)
+power a (negsuc n) =
+    if is_zero a then None
+    else if int_eq a (pos 1) then Some (pos 1)
+    else if int_eq a (negsuc 0) then Some (sign (suc n))
+    else Some (pos 0)
+
+-- what the operation computes over the integers; none is a division by zero
+abbrev pub op_value : Op → ℤ → ℤ → Option ℤ
+op_value Mov a b = Some b
+op_value Add a b = Some (a +ℤ b)
+op_value Sub a b = Some (a -ℤ b)
+op_value Trn a b = Some (int_max (a -ℤ b) (pos 0))
+op_value Mul a b = Some (a *ℤ b)
+op_value Div a b = if is_zero b then None else Some (int_div a b)
+op_value Dif a b = if is_zero b then Some a else if is_zero (int_rem a b) then Some (int_div a b) else Some a
+op_value Mod a b = if is_zero b then None else Some (int_rem a b)
+op_value Pow a b = power a b
+op_value Gcd a b = Some (pos 0)
+op_value Bin a b = Some (binomial a b)
+op_value Equ a b = Some (of_test (int_eq a b))
+op_value Neq a b = Some (of_test (not (int_eq a b)))
+op_value Leq a b = Some (of_test (int_le a b))
+op_value Geq a b = Some (of_test (int_le b a))
+op_value Min a b = Some (int_min a b)
+op_value Max a b = Some (int_max a b)
+
+abbrev pub ranged : Option ℤ → Result ℤ NumFault
+ranged None = Err DivideByZero
+ranged (Some z) = in_range z
+
+abbrev pub op_answer : Op → ℤ → ℤ → Result ℤ NumFault
+op_answer op a b = ranged (op_value op a b)

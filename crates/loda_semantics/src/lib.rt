@@ -1,0 +1,6 @@
+// What programs mean.
+#![tactic(auto)]
+
+pub mod kinds;
+
+pub use kinds::{FaultKind, Pair};

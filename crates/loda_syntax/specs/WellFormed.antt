@@ -1,0 +1,44 @@
+-- Which lists of instructions are programs.
+use Rattle.std.specs.Prelude.{ℕ, zero, suc, ◌+◌, ◌*◌, ◌^◌, ◌<◌, ◌≤◌, ◌≡◌, ℤ, unsigned_abs, List, [], ◌∷◌, length, All, Bool, true, false, nat_lt, nat_le, ◌&&◌, IsTrue}
+use Rattle.std.specs.List.{list_all}
+use Rattle.loda_syntax.specs.declared.instr.Operand.{Operand}
+use Rattle.loda_syntax.specs.declared.instr.Operand.TheVariants.{Constant, Direct, Indirect}
+use Rattle.loda_syntax.specs.declared.instr.Instr.{Instr}
+use Rattle.loda_syntax.specs.declared.instr.Instr.TheVariants.{Arith, Clear, LoopStart, LoopEnd, Call}
+
+abbrev pub IsCell : ℕ → Type 0
+IsCell c = c < 4096
+
+abbrev pub IsTarget : Operand → Type 0
+IsTarget (Constant v) = ⊥
+IsTarget (Direct c) = c < 4096
+IsTarget (Indirect c) = c < 4096
+
+abbrev pub IsSource : Operand → Type 0
+IsSource (Constant v) = unsigned_abs v < 2 ^ 127
+IsSource (Direct c) = c < 4096
+IsSource (Indirect c) = c < 4096
+
+-- the instruction by itself: its operands, its region and its name are in range
+abbrev pub IsInstr : Instr → Type 0
+IsInstr (Arith v t s) = IsTarget t × IsSource s
+IsInstr (Clear c n) = (n ≤ 1024) × (c + n ≤ 4096)
+IsInstr (LoopStart c n) = (1 ≤ n) × (n ≤ 64) × (c + n ≤ 4096)
+IsInstr LoopEnd = Unit {0}
+IsInstr (Call t q) = IsTarget t × (1 ≤ q) × (q ≤ 999999)
+
+-- how many loops the list ends without starting them, where it leaves this many open
+-- read from its start with `depth` loops open, the list ends each loop that it starts, and no other
+abbrev pub IsBalanced : ℕ → List Instr → Type 0
+IsBalanced depth [] = depth ≡ 0
+IsBalanced depth (LoopStart c n ∷ is) = IsBalanced (suc depth) is
+IsBalanced zero (LoopEnd ∷ is) = ⊥
+IsBalanced (suc depth) (LoopEnd ∷ is) = IsBalanced depth is
+IsBalanced depth (Arith v t s ∷ is) = IsBalanced depth is
+IsBalanced depth (Clear c n ∷ is) = IsBalanced depth is
+IsBalanced depth (Call t q ∷ is) = IsBalanced depth is
+
+pub record IsProgram (is : List Instr) : Type 0 where
+  pub short : length is ≤ 1000
+  pub each : All IsInstr is
+  pub balanced : IsBalanced 0 is
