@@ -1,5 +1,5 @@
 -- What each operation gives. The value is computed over all integers, and only then compared with the number range.
-use Rattle.std.specs.Prelude.{ℕ, zero, suc, ◌+◌, ◌<◌, ◌^◌, ◌%◌, ◌==◌, nat_lt, ℤ, pos, negsuc, ◌+ℤ◌, ◌-ℤ◌, ◌*ℤ◌, neg_ℤ, unsigned_abs, int_lt, int_le, int_div, int_rem, if◌then◌else◌, Bool, true, false, cond, not}
+use Rattle.std.specs.Prelude.{ℕ, zero, suc, ◌+◌, ◌%◌, ◌==◌, ◌&&◌, ℤ, pos, negsuc, ◌+ℤ◌, ◌-ℤ◌, ◌*ℤ◌, neg_ℤ, unsigned_abs, int_le, int_div, int_rem, if◌then◌else◌, Bool, not}
 use Rattle.std.specs.declared.option.Option.{Option}
 use Rattle.std.specs.declared.option.Option.TheVariants.{Some, None}
 use Rattle.std.specs.declared.result.Result.{Result}
@@ -24,14 +24,32 @@ int_eq a b = is_zero (a -ℤ b)
 abbrev pub of_test : Bool → ℤ
 of_test b = if b then pos 1 else pos 0
 
+-- whether d, which is not 0, divides n
+abbrev pub divides : ℕ → ℕ → Bool
+divides d n = n % d == 0
+
+-- the greatest number up to limit that divides both a and b, or 0 where there is none
+unfoldable pub greatest_divisor_up_to : ℕ → ℕ → ℕ → ℕ
+greatest_divisor_up_to zero a b = 0
+greatest_divisor_up_to (suc limit) a b =
+    if divides (suc limit) a && divides (suc limit) b then suc limit else greatest_divisor_up_to limit a b
+
+-- the greatest common divisor, since no divisor of both is above a + b, where that is not 0; 0 of 0 and 0
+unfoldable pub gcd : ℕ → ℕ → ℕ
+gcd a b = greatest_divisor_up_to (a + b) a b
+
 -- the ways to choose k of n, by Pascal's rule
-abbrev pub choose : ℕ → ℕ → ℕ
+unfoldable pub choose : ℕ → ℕ → ℕ
 choose n zero = 1
 choose zero (suc k) = 0
 choose (suc n) (suc k) = choose n k + choose n (suc k)
 
 abbrev pub sign : ℕ → ℤ
 sign n = if n % 2 == 0 then pos 1 else negsuc 0
+
+-- the integer of this sign and size
+abbrev pub signed : Bool → ℕ → ℤ
+signed negative n = if negative then neg_ℤ (pos n) else pos n
 
 abbrev pub binomial : ℤ → ℤ → ℤ
 binomial a (negsuc k) = pos 0
@@ -56,9 +74,9 @@ op_value Trn a b = Some (int_max (a -ℤ b) (pos 0))
 op_value Mul a b = Some (a *ℤ b)
 op_value Div a b = if is_zero b then None else Some (int_div a b)
 op_value Dif a b = if is_zero b then Some a else if is_zero (int_rem a b) then Some (int_div a b) else Some a
-op_value Mod a b = if is_zero b then None else Some (int_rem a b)
+op_value Mod a b = if is_zero b then None else Some (a -ℤ b *ℤ int_div a b)
 op_value Pow a b = power a b
-op_value Gcd a b = Some (pos 0)
+op_value Gcd a b = Some (pos (gcd (unsigned_abs a) (unsigned_abs b)))
 op_value Bin a b = Some (binomial a b)
 op_value Equ a b = Some (of_test (int_eq a b))
 op_value Neq a b = Some (of_test (not (int_eq a b)))

@@ -1,10 +1,13 @@
-// A number whose absolute value is at most 2 ^ 127 - 1.
-ghost use Rattle.std.specs.Prelude.{◌≡◌, ℤ, SomeIff, ◌↔◌, IsTrue, ◌≤ℤ◌};
-ghost use Rattle.checked_numbers.specs.Numbers.{IsNumber};
+// The numbers that programs compute with, and their text.
+ghost use Rattle.std.specs.Prelude.{◌≡◌, ℤ, SomeIff, ◌↔◌, IsTrue, ◌≤ℤ◌, ◌++◌, OnOk, OnErr};
+ghost use Rattle.checked_numbers.specs.Numbers.{IsNumber, decimal_of};
 
+use itoa::Buffer;
+use std::alloc::AllocError;
 use std::cmp::Ordering;
 use std::marker::Model;
 
+/// An integer from `-(2 ^ 127 - 1)` to `2 ^ 127 - 1`.
 #[derive(Clone, Copy, Debug, PartialEq, Eq, PartialOrd, Ord)]
 pub struct Num {
     value: i128,
@@ -21,6 +24,7 @@ impl Model for Num {
 }
 
 impl Num {
+    /// The number of this value, which every value but `-2 ^ 127` has.
     pub fn new(value: i128) -> Option<Num>
         ensures { SomeIff result (IsNumber value) value }
     {
@@ -31,6 +35,7 @@ impl Num {
         }
     }
 
+    /// The value.
     pub fn get(self) -> i128
         ensures value { result ≡ self }
         ensures number { IsNumber result }
@@ -38,3 +43,15 @@ impl Num {
         self.value
     }
 }
+
+/// Adds the decimal text of a number, as `-12`. After want of memory `out` is as before.
+pub fn write_num(out: &mut Vec<u8>, v: Num) -> Result<(), AllocError>
+    ensures ok { OnOk result (out.new.items ≡ out.old.items ++ decimal_of v) }
+    ensures err { OnErr result (out.new.items ≡ out.old.items) }
+{
+    let mut buffer = Buffer::new();
+    out.extend_from_slice(buffer.format(v.get()).as_bytes())
+}
+
+#[cfg(test)]
+mod tests;
