@@ -1,3 +1,12 @@
 pub mod WellFormed
 pub mod Trees
 pub mod Programs
+pub mod Words
+pub mod Cuts
+pub mod Lines
+pub mod Grammar
+pub mod Reading
+pub mod Canon
+pub mod Answers
+pub mod Laws
+pub mod Sections

@@ -1,6 +1,5 @@
 -- Which lists of instructions are programs.
-use Rattle.std.specs.Prelude.{ℕ, zero, suc, ◌+◌, ◌*◌, ◌^◌, ◌<◌, ◌≤◌, ◌≡◌, ℤ, unsigned_abs, List, [], ◌∷◌, length, All, Bool, true, false, nat_lt, nat_le, ◌&&◌, IsTrue}
-use Rattle.std.specs.List.{list_all}
+use Rattle.std.specs.Prelude.{ℕ, zero, suc, ◌+◌, ◌^◌, ◌<◌, ◌≤◌, ◌≡◌, unsigned_abs, List, [], ◌∷◌, length, All, Option, Some, None}
 use Rattle.loda_syntax.specs.declared.instr.Operand.{Operand}
 use Rattle.loda_syntax.specs.declared.instr.Operand.TheVariants.{Constant, Direct, Indirect}
 use Rattle.loda_syntax.specs.declared.instr.Instr.{Instr}
@@ -22,12 +21,11 @@ IsSource (Indirect c) = c < 4096
 -- the instruction by itself: its operands, its region and its name are in range
 abbrev pub IsInstr : Instr → Type 0
 IsInstr (Arith v t s) = IsTarget t × IsSource s
-IsInstr (Clear c n) = (n ≤ 1024) × (c + n ≤ 4096)
+IsInstr (Clear c n) = (n ≤ 1024) × (c + n ≤ 4096) × (c < 4096)
 IsInstr (LoopStart c n) = (1 ≤ n) × (n ≤ 64) × (c + n ≤ 4096)
 IsInstr LoopEnd = Unit {0}
 IsInstr (Call t q) = IsTarget t × (1 ≤ q) × (q ≤ 999999)
 
--- how many loops the list ends without starting them, where it leaves this many open
 -- read from its start with `depth` loops open, the list ends each loop that it starts, and no other
 abbrev pub IsBalanced : ℕ → List Instr → Type 0
 IsBalanced depth [] = depth ≡ 0
@@ -38,6 +36,17 @@ IsBalanced depth (Arith v t s ∷ is) = IsBalanced depth is
 IsBalanced depth (Clear c n ∷ is) = IsBalanced depth is
 IsBalanced depth (Call t q ∷ is) = IsBalanced depth is
 
+-- how many loops are open after the list, where so many are open before it; nothing where it ends a loop that isn't there
+abbrev pub open_loops : ℕ → List Instr → Option ℕ
+open_loops depth [] = Some depth
+open_loops depth (LoopStart c n ∷ is) = open_loops (suc depth) is
+open_loops zero (LoopEnd ∷ is) = None
+open_loops (suc depth) (LoopEnd ∷ is) = open_loops depth is
+open_loops depth (Arith v t s ∷ is) = open_loops depth is
+open_loops depth (Clear c n ∷ is) = open_loops depth is
+open_loops depth (Call t q ∷ is) = open_loops depth is
+
+-- a well-formed list of instructions
 pub record IsProgram (is : List Instr) : Type 0 where
   pub short : length is ≤ 1000
   pub each : All IsInstr is

@@ -3,8 +3,11 @@ ghost use Rattle.std.specs.Prelude.{◌≡◌, ◌↔◌, ◌+◌, ◌≤◌, If
 ghost use Rattle.loda_syntax.specs.WellFormed.{IsProgram, IsTarget, IsSource, IsInstr, IsBalanced};
 
 use crate::instr::{Instr, Operand};
+use std::alloc::AllocError;
 use std::marker::Model;
 
+/// A list of instructions that is well formed: at most 1,000 instructions, each with its operands, region and name in
+/// range, and loops that are balanced.
 #[derive(Debug, Drop)]
 pub struct Program {
     list: Vec<Instr>,
@@ -46,9 +49,17 @@ fn is_instr(instr: &Instr) -> bool
     ensures { IsTrue result ↔ IsInstr instr.now }
 {
     match instr {
-        Instr::Arith { verb: _, target, source } => is_target(target) && is_source(source),
-        Instr::Clear { start, count } => *count <= 1024 && *start as u32 + *count as u32 <= 4096,
-        Instr::LoopStart { start, len } => 1 <= *len && *len <= 64 && *start as u32 + *len as u32 <= 4096,
+        Instr::Arith {
+            verb: _,
+            target,
+            source,
+        } => is_target(target) && is_source(source),
+        Instr::Clear { start, count } => *start < 4096
+            && *count <= 1024
+            && *start as u32 + *count as u32 <= 4096,
+        Instr::LoopStart { start, len } => 1 <= *len
+            && *len <= 64
+            && *start as u32 + *len as u32 <= 4096,
         Instr::LoopEnd => true,
         Instr::Call { target, name } => is_target(target) && 1 <= *name && *name <= 999_999,
     }
@@ -91,6 +102,15 @@ fn is_program(list: &[Instr]) -> bool
 }
 
 impl Program {
+    /// The program of a list that is well formed.
+    pub(crate) fn of(list: Vec<Instr>) -> Program
+        requires { IsProgram list.items }
+        ensures { result ≡ list.items }
+    {
+        Program { list }
+    }
+
+    /// The program of a list, or the list itself where it isn't well formed.
     pub fn new(list: Vec<Instr>) -> Result<Program, Vec<Instr>>
         ensures ok { IfOk result (λ program. program ≡ list.items) }
         ensures program { IfOk result (λ program. IsProgram program) }
@@ -104,10 +124,27 @@ impl Program {
         }
     }
 
+    /// The instructions, in their order.
     pub fn instrs(&self) -> &[Instr]
         ensures value { result.now ≡ self.now }
         ensures program { IsProgram result.now }
     {
         &self.list
+    }
+
+    /// Whether the programs are equal.
+    pub fn same(&self, other: &Program) -> bool
+        ensures { IsTrue result ↔ (self.now ≡ other.now) }
+    {
+        self.list == other.list
+    }
+
+    /// An equal program.
+    pub fn copy(&self) -> Result<Program, AllocError>
+        ensures { IfOk result (λ program. program ≡ self.now) }
+    {
+        Ok(Program {
+            list: self.list.clone()?,
+        })
     }
 }

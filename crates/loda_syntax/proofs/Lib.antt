@@ -1,0 +1,15 @@
+pub mod Bytes
+pub mod Causes
+pub mod Contents
+pub mod Cuts
+pub mod Digits
+pub mod Drafts
+pub mod Equal
+pub mod Formed
+pub mod Meaning
+pub mod Operands
+pub mod Printed
+pub mod Results
+pub mod Round
+pub mod Sections
+pub mod Texts
