@@ -1,13 +1,13 @@
 -- Callees that agree with fewer than n steps give the same run with n steps.
-use Rattle.std.proofs.Common.{ℕ, zero, suc, ◌+◌, ◌-◌, ◌<◌, ◌≤◌, ◌≡◌, refl, sym, ap, subst, ◌∙◌, arith, ℤ, pos, Bool, true, false, nat_lt, max, List, [], ◌∷◌}
+use Rattle.std.proofs.Common.{ℕ, zero, suc, ◌+◌, ◌-◌, ◌<◌, ◌≤◌, ◌≡◌, refl, ap, ◌∙◌, arith, ℤ, Bool, true, false, nat_lt}
 use Rattle.std.specs.Prelude.{if◌then◌else◌}
 use Rattle.std.specs.declared.option.Option.{Option}
 use Rattle.std.specs.declared.option.Option.TheVariants.{Some, None}
 use Rattle.loda_syntax.specs.declared.instr.Instr.{Instr}
 use Rattle.loda_syntax.specs.declared.instr.Instr.TheVariants.{Arith, Clear, LoopStart, LoopEnd, Call}
 use Rattle.loda_syntax.specs.Trees.{Tree, end, step, loop}
-use Rattle.loda_semantics.specs.Memory.{Memory, set_cell, clear_cells, address, source_value, is_less}
-use Rattle.loda_semantics.specs.Exec.{Outcome, value, fault, out, Calls, none, call, join, Ending, done, failed, spent, after_calls, and_then, charge, arithmetic, Callee, called, call_at, single, turns_of, exec}
+use Rattle.loda_semantics.specs.Memory.{Memory, address, is_less}
+use Rattle.loda_semantics.specs.Exec.{Outcome, Calls, none, Ending, done, failed, spent, after_calls, and_then, charge, Callee, called, call_at, single, turns_of, exec}
 use Rattle.loda_semantics.proofs.Simulation.{left_of, left-single, left-exec, left-turns, left-charge}
 
 pub same-then : (most : ℕ) (r : Ending) (f1 f2 : Memory → ℕ → Ending) → left_of r ≤ most → ((m : Memory) (a : ℕ) → a ≤ most → f1 m a ≡ f2 m a) → and_then r f1 ≡ and_then r f2
@@ -29,7 +29,7 @@ same-turns body1 body2 c k most left bodies (suc t) m a le =
     let go1 = λ (new : Memory) (n : ℕ). if is_less k c new m then turns_of body1 c k t new n else done m n none in
     let go2 = λ (new : Memory) (n : ℕ). if is_less k c new m then turns_of body2 c k t new n else done m n none in
     same-then a (body1 m a) (λ new n. charge k n (go1 new)) (λ new n. charge k n (go2 new)) (left m a)
-      (λ new n le'. same-charge k n (go1 new) (go2 new) λ n' e. ap (λ r. if is_less k c new m then r else done m n' none) (same-turns body1 body2 c k most left bodies t new n' (omega arith)))
+    (λ new n le'. same-charge k n (go1 new) (go2 new) λ n' e. ap (λ r. if is_less k c new m then r else done m n' none) (same-turns body1 body2 c k most left bodies t new n' (omega arith)))
     ∙ ap (λ r. and_then r (λ new n. charge k n (go2 new))) (bodies m a le)
 
 module _ (callee1 callee2 : Callee) (most : ℕ) (agree : (q : ℕ) (x : ℤ) (n : ℕ) → n < most → callee1 q x n ≡ callee2 q x n) where
@@ -54,6 +54,6 @@ module _ (callee1 callee2 : Callee) (most : ℕ) (agree : (q : ℕ) (x : ℤ) (n
       let f2 = λ (n : ℕ). turns_of (exec callee2 body) c k (suc n) m n in
       let left = λ (m : Memory) (a : ℕ). left-exec callee1 body m a in
       same-then most (charge 1 n f1) (exec callee1 rest) (exec callee2 rest)
-        (let h = left-charge callee1 1 n f1 (λ a. left-turns callee1 (exec callee1 body) c k left (suc a) m a) in omega arith) (λ m a le. same-exec rest m a le)
+      (let h = left-charge callee1 1 n f1 (λ a. left-turns callee1 (exec callee1 body) c k left (suc a) m a) in omega arith) (λ m a le. same-exec rest m a le)
       ∙ ap (λ r. and_then r (exec callee2 rest))
-          (same-charge 1 n f1 f2 λ n' e. same-turns (exec callee1 body) (exec callee2 body) c k most left (λ m a le. same-exec body m a le) (suc n') m n' (omega arith))
+      (same-charge 1 n f1 f2 λ n' e. same-turns (exec callee1 body) (exec callee2 body) c k most left (λ m a le. same-exec body m a le) (suc n') m n' (omega arith))

@@ -1,5 +1,5 @@
 -- What cells hold, and when a region fell.
-use Rattle.std.specs.Prelude.{ℕ, zero, suc, ◌+◌, ◌<◌, ◌==◌, nat_lt, ℤ, pos, negsuc, Bool, true, false, ◌&&◌, ◌||◌, not, if◌then◌else◌, int_lt}
+use Rattle.std.specs.Prelude.{ℕ, zero, suc, ◌+◌, ◌==◌, nat_lt, ℤ, pos, negsuc, Bool, false, ◌&&◌, ◌||◌, not, if◌then◌else◌, int_lt}
 use Rattle.std.specs.declared.option.Option.{Option}
 use Rattle.std.specs.declared.option.Option.TheVariants.{Some, None}
 use Rattle.std.specs.Option.{option_map}
@@ -14,13 +14,15 @@ Memory = ℕ → ℤ
 abbrev pub memory_with : ℤ → Memory
 memory_with x c = if c == 0 then x else pos 0
 
+-- v in cell a
 abbrev pub set_cell : Memory → ℕ → ℤ → Memory
 set_cell m a v c = if c == a then v else m c
 
+-- 0 in `count` cells from `start` on
 abbrev pub clear_cells : Memory → ℕ → ℕ → Memory
 clear_cells m start count c = if not (nat_lt c start) && nat_lt c (start + count) then pos 0 else m c
 
--- an address that a cell holds
+-- the cell whose address a number is; none outside of 0 to 4095
 abbrev pub cell_at : ℤ → Option ℕ
 cell_at (pos a) = if nat_lt a 4096 then Some a else None
 cell_at (negsuc a) = None
@@ -31,6 +33,7 @@ address m (Constant v) = None
 address m (Direct c) = Some c
 address m (Indirect c) = cell_at (m c)
 
+-- what a source holds; none where an indirect one leads outside
 abbrev pub source_value : Memory → Operand → Option ℤ
 source_value m (Constant v) = Some v
 source_value m (Direct c) = Some (m c)

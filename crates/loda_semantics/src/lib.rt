@@ -1,6 +1,13 @@
-// What programs mean.
+// What programs mean: their memory, their runs, and the laws of runs.
 #![tactic(auto)]
 
-pub mod kinds;
+mod kinds;
+mod theorems;
+mod verbs;
 
 pub use kinds::{FaultKind, Pair};
+pub use theorems::{
+    depth_is_free, more_steps, replacement_keeps, runs_unfold, steps_never_rise,
+    used_steps_suffice, worked_examples,
+};
+pub use verbs::op_of;
