@@ -1,0 +1,4 @@
+pub mod Memories
+pub mod State
+pub mod Steps
+pub mod Machines
