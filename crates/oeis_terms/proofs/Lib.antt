@@ -1,0 +1,12 @@
+pub mod Cuts
+pub mod Digits
+pub mod Lines
+pub mod Items
+pub mod Terms
+pub mod Ascending
+pub mod Sorting
+pub mod Said
+pub mod LinesRead
+pub mod Facts
+pub mod Parsing
+pub mod Bounds
