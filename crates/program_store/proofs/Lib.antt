@@ -1,0 +1,12 @@
+pub mod Entries
+pub mod WholeLines
+pub mod Digits
+pub mod Cutting
+pub mod FaultLines
+pub mod Sectioned
+pub mod ReadLoops
+pub mod Rising
+pub mod PrintLoop
+pub mod HeaderBack
+pub mod SectionBack
+pub mod StoreBack

@@ -1,0 +1,68 @@
+//! Proposals in the order of a candidates file.
+
+ghost use Rattle.std.specs.Prelude.{◌≡◌, ◌<◌, ◌≤◌, Some, [], ◌∷◌, ◌++◌, length, slice_get, OnOk, OnErr};
+ghost use Rattle.program_store.specs.Store.{IsName, IsProposal};
+
+use crate::published::Proposal;
+use std::alloc::{AllocError, Global};
+use std::marker::Model;
+
+/// A list of at most 1,000,000 proposals.
+#[derive(Drop)]
+pub struct Candidates {
+    list: Vec<Proposal>,
+}
+
+impl Model for Candidates {
+    ghost use Rattle.std.specs.Prelude.{List};
+    ghost use Rattle.program_store.specs.declared.published.Proposal.{Proposal};
+
+    ghost Value = { List Proposal };
+
+    ghost use Rattle.program_store.specs.Store.{AreCandidates};
+
+    ghost view = { λ c. c.list.items };
+
+    ghost invariant = { λ c. AreCandidates c.list.items };
+}
+
+impl Candidates {
+    /// No proposals.
+    pub(crate) fn empty(alloc: Global) -> Candidates
+        ensures { result ≡ [] }
+    {
+        Candidates {
+            list: Vec::new(alloc),
+        }
+    }
+
+    /// Adds a proposal at the end.
+    pub(crate) fn push(&mut self, proposal: Proposal) -> Result<(), AllocError>
+        requires few { length self.old < 1000000 }
+        requires named { IsName proposal.name }
+        ensures ok { OnOk result (self.new ≡ self.old ++ proposal ∷ []) }
+        ensures err { OnErr result (self.new ≡ self.old) }
+    {
+        // What is kept of each proposal: its instructions are those of a program.
+        let _ = proposal.program.instrs();
+        self.list.push(proposal)?;
+        Ok(())
+    }
+
+    /// How many proposals there are.
+    pub fn len(&self) -> u64
+        ensures value { result ≡ length self.now }
+        ensures few { result ≤ 1000000 }
+    {
+        self.list.len() as u64
+    }
+
+    /// The proposal of a job, which is its place from 0.
+    pub fn at(&self, job: u64) -> &Proposal
+        requires { job < length self.now }
+        ensures value { slice_get self.now job ≡ Some result.now }
+        ensures kept { IsProposal result.now }
+    {
+        &self.list[job as usize]
+    }
+}
