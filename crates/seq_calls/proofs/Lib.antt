@@ -1,0 +1,3 @@
+pub mod Joined
+pub mod Unwind
+pub mod Under

@@ -1,0 +1,14 @@
+use Rattle.std.proofs.Common.{◌≡◌, ◌+◌, ◌*◌, ◌≤◌, ℕ, length}
+use Rattle.std.specs.Prelude.{reverse}
+use Rattle.seq_calls.proofs.Under.{IsUnder}
+use Rattle.seq_calls.proofs.evaluation.run_frames.Given as goal
+
+abbrev pub invariant-loop-frame : goal.invariant-loop-frame
+invariant-loop-frame g l = record {
+  under : IsUnder (g.B.Library.programs l.lib) l.limit l.fn.name l.fn.arg l.frame (reverse l.stack.items) l.nodes.items l.budget;
+  within : l.budget ≤ l.limit;
+  limit : l.limit ≡ l.fn.budget;
+}
+
+abbrev pub decreases-loop-frame : goal.decreases-loop-frame
+decreases-loop-frame g l = 2 * l.budget + length l.stack.items

@@ -1,0 +1,16 @@
+//! Runs of programs that call each other: their outcomes, their steps, and the runs that they finish.
+#![tactic(auto)]
+
+mod counting;
+mod evaluation;
+mod finished;
+mod outcomes;
+mod pairs_list;
+mod unfinished;
+
+pub use counting::Steps;
+pub use evaluation::{Run, evaluate, evaluate_alone};
+pub use finished::Frames;
+pub use loda_semantics::Pair;
+pub use outcomes::{NodeRun, Outcome};
+pub use pairs_list::Pairs;
