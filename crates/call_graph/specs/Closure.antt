@@ -1,0 +1,31 @@
+-- What a set of names has to do with the calls of their programs.
+use Rattle.std.specs.Prelude.{ℕ, ◌≡◌, ◌<◌, List, Contains}
+use Rattle.std.specs.declared.option.Option.TheVariants.{Some}
+use Rattle.loda_syntax.specs.Programs.{Text}
+use Rattle.loda_semantics.specs.Exec.{Library}
+use Rattle.program_store.specs.Graph.{calls_of, Reaches, CallsReach, OnCycle}
+
+-- the name has a program, and some call of it reaches the other name
+abbrev pub ReachesByCall : Library → ℕ → ℕ → Type 0
+ReachesByCall lib from to = (p : Text) × (lib from ≡ Some p) × CallsReach lib p to
+
+-- each name that the program of this name calls is on the list
+abbrev pub HasCallsOf : Library → List ℕ → ℕ → Type 0
+HasCallsOf lib names q = (p : Text) → lib q ≡ Some p → (n : ℕ) → Contains (calls_of p) n → Contains names n
+
+-- the list has what its names call
+abbrev pub IsClosed : Library → List ℕ → Type 0
+IsClosed lib names = (q : ℕ) → Contains names q → HasCallsOf lib names q
+
+-- q is the least number with the property
+abbrev pub IsLeast : (ℕ → Type 0) → ℕ → Type 0
+IsLeast P q = P q × ((k : ℕ) → k < q → P k → ⊥)
+
+-- some name on the list reaches q
+abbrev pub ReachedFrom : Library → List ℕ → ℕ → Type 0
+ReachedFrom lib names q = (s : ℕ) × Contains names s × Reaches lib s q
+
+-- the list has what its names call, and none of them is on a cycle
+pub record IsClear (lib : Library) (names : List ℕ) : Type 0 where
+  pub closed : IsClosed lib names
+  pub apart : (q : ℕ) → Contains names q → OnCycle lib q → ⊥
