@@ -1,0 +1,11 @@
+pub mod Records
+pub mod Values
+pub mod Firsts
+pub mod Demanded
+pub mod NewCycles
+pub mod Keep
+pub mod OneAnswer
+pub mod OneReason
+pub mod Rows
+pub mod Misses
+pub mod Fresh

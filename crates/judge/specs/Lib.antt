@@ -1,0 +1,6 @@
+pub mod Passed
+pub mod Misses
+pub mod Sound
+pub mod Judged
+pub mod Kept
+pub mod One
