@@ -1,0 +1,4 @@
+pub mod History
+pub mod Source
+pub mod Desk
+pub mod Report
