@@ -1,0 +1,4 @@
+pub mod Choices
+pub mod WordsTaken
+pub mod MadeWell
+pub mod Turns

@@ -1,0 +1,3 @@
+pub mod Arithmetic
+pub mod Names
+pub mod Generating

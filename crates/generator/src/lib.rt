@@ -1,0 +1,12 @@
+//! Programs made at random: which program is made is a function of the random words and of the names
+//! that it may call.
+#![tactic(auto)]
+
+mod arithmetic;
+mod draft;
+mod generation;
+#[cfg(test)]
+mod tests;
+
+pub use arithmetic::{draw_arithmetic, drawn_verb};
+pub use generation::generate;
