@@ -1,0 +1,4 @@
+pub mod Balance
+pub mod WordsTaken
+pub mod KeepsProgram
+pub mod Changes
