@@ -6,6 +6,8 @@ mod desk;
 mod entry;
 mod origin;
 mod report;
+#[cfg(test)]
+mod tests;
 
 pub use desk::{Desk, OpenError};
 pub use entry::{Entry, Finding};
