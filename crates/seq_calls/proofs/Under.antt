@@ -7,7 +7,8 @@ use Rattle.loda_semantics.specs.declared.kinds.Pair.{Pair}
 use Rattle.loda_semantics.specs.declared.kinds.FaultKind.{FaultKind}
 use Rattle.loda_semantics.specs.declared.kinds.FaultKind.TheVariants.{Missing}
 use Rattle.loda_semantics.specs.Memory.{memory_with}
-use Rattle.loda_semantics.specs.Exec.{Outcome, value, fault, out, Calls, none, call, join, Ending, done, failed, spent, after_calls, Library, run_name, exec, outcome_of}
+use Rattle.loda_semantics.specs.Exec.{Outcome, value, fault, out, Calls, none, call, join, Ending, done, failed, spent, after_calls, Library, run_name, run_text, exec, outcome_of}
+use Rattle.loda_semantics.proofs.Laws.{run_text-is}
 use Rattle.lex_loops.specs.declared.stop.Stop.TheVariants as stop
 use Rattle.lex_loops.specs.declared.stop.Phase.TheVariants.{Ready, Waiting as IsWaiting}
 use Rattle.lex_loops.specs.State.{State, run_on, Begins, Advances, TakesAnswer}
@@ -19,12 +20,11 @@ use Rattle.seq_calls.specs.declared.evaluation.Run.{Run}
 use Rattle.seq_calls.specs.Frames.{direct, steps_below, nodes_in, node_of, nodes_of, told, steps_of}
 use Rattle.seq_calls.specs.Under.{IsRun}
 use Rattle.seq_calls.proofs.Joined.{join-none, after-none, direct_join, steps_join, nodes_join}
-use Rattle.seq_calls.proofs.Unwind.{Waiting, unwind, nodes_before, AreGiven, name-is, push_call, missing_call, pop_value, unwind_failed, unwind_spent}
+use Rattle.seq_calls.proofs.Unwind.{Waiting, unwind, nodes_before, AreGiven, push_call, missing_call, pop_value, unwind_failed, unwind_spent}
 
 -- a frame that has made these calls, and has so many steps left
 pub record Stands (lib : Library) (f : Frame) (before : Calls) (left : ℕ) : Type 0 where
   pub text : f.machine.program ≡ f.program.now
-  pub here : lib f.name ≡ Some f.program.now
   pub calls : f.calls.items ≡ direct before
   pub below : f.below ≡ steps_below before
   pub within : f.below + left ≤ f.given
@@ -39,13 +39,14 @@ abbrev pub waiting : Frame → List Frame → List Calls → List Waiting
 waiting callee (f ∷ fs) (b ∷ bs) = record { state = f.machine; before = b; name = callee.name; arg = callee.arg; given = callee.given } ∷ waiting f fs bs
 waiting callee fs bs = []
 
--- the whole run, from the name at the bottom
+-- the name and the argument of the run at the bottom
 abbrev pub bottom : Frame → List Frame → ℕ × ℤ
 bottom callee [] = (callee.name, callee.arg)
 bottom callee (f ∷ fs) = bottom f fs
 
--- The frames stand for the rest of the run of the name at the bottom.
-pub record IsUnder (lib : Library) (limit q : ℕ) (x : ℤ) (frame : Frame) (callers : List Frame) (nodes : List NodeRun) (left : ℕ) : Type 0 where
+-- The frames stand for the rest of the run at the bottom, which comes to `ran` in the end, and whose node has this name and
+-- argument.
+pub record IsUnder (lib : Library) (limit : ℕ) (ran : Outcome × Calls) (q : ℕ) (x : ℤ) (frame : Frame) (callers : List Frame) (nodes : List NodeRun) (left : ℕ) : Type 0 where
   pub before : Calls
   pub befores : List Calls
   pub ready : frame.machine.phase ≡ Ready
@@ -53,18 +54,17 @@ pub record IsUnder (lib : Library) (limit q : ℕ) (x : ℤ) (frame : Frame) (ca
   pub wait : Wait lib limit frame callers befores
   pub bottom_is : bottom frame callers ≡ (q, x)
   pub nodes_are : nodes ≡ nodes_before (waiting frame callers befores) ++ nodes_in before
-  pub run : outcome_of limit (unwind lib (waiting frame callers befores) (after_calls before (run_on (run_name lib) frame.machine left))) ≡ run_name lib q x limit
+  pub run : outcome_of limit (unwind lib (waiting frame callers befores) (after_calls before (run_on (run_name lib) frame.machine left))) ≡ ran
 
 -- where a run begins
-pub begins : (lib : Library) (limit q : ℕ) (x : ℤ) (p : Text) (frame : Frame) → lib q ≡ Some p → Begins frame.machine p x → frame.machine.program ≡ p → frame.machine.phase ≡ Ready
-    → frame.program.now ≡ p → frame.name ≡ q → frame.arg ≡ x → frame.given ≡ limit → frame.calls.items ≡ [] → frame.below ≡ 0 → IsUnder lib limit q x frame [] [] limit
-begins lib limit q x p frame here start text ready program name arg given calls below = record {
+pub begins : (lib : Library) (limit q : ℕ) (x : ℤ) (p : Text) (frame : Frame) → Begins frame.machine p x → frame.machine.program ≡ p → frame.machine.phase ≡ Ready
+    → frame.program.now ≡ p → frame.name ≡ q → frame.arg ≡ x → frame.given ≡ limit → frame.calls.items ≡ [] → frame.below ≡ 0 → IsUnder lib limit (run_text lib p x limit) q x frame [] [] limit
+begins lib limit q x p frame start text ready program name arg given calls below = record {
   before = none;
   befores = [];
   ready = ready;
   stands = record {
     text = text ∙ sym program;
-    here = subst (λ (n : ℕ). lib n ≡ Some frame.program.now) (sym name) (subst (λ (t : Text). lib q ≡ Some t) (sym program) here);
     calls = calls;
     below = below;
     within = omega (arith, below, given);
@@ -72,7 +72,7 @@ begins lib limit q x p frame here start text ready program name arg given calls 
   wait = given;
   bottom_is = ap (λ (n : ℕ). (n, frame.arg)) name ∙ ap (λ (z : ℤ). (q, z)) arg;
   nodes_are = refl;
-  run = ap (outcome_of limit) (after-none (run_on (run_name lib) frame.machine limit) ∙ start (run_name lib) limit) ∙ sym (name-is lib q x limit p here);
+  run = ap (outcome_of limit) (after-none (run_on (run_name lib) frame.machine limit) ∙ start (run_name lib) limit) ∙ sym (run_text-is lib p x limit);
 }
 
 -- every caller was given at least what is left
@@ -89,8 +89,8 @@ left_within lib limit left callee (f ∷ fs) [] le w = absurd w
 left_within lib limit left callee (f ∷ fs) (b ∷ bs) le w = left_within lib limit left f fs bs (let h = w.0.within in omega (arith, h)) w.2
 
 -- what is left of the limit
-pub under_limit : (lib : Library) (limit q : ℕ) (x : ℤ) (frame : Frame) (callers : List Frame) (nodes : List NodeRun) (left : ℕ) → IsUnder lib limit q x frame callers nodes left → left ≤ limit
-under_limit lib limit q x frame callers nodes left h = left_within lib limit left frame callers h.befores (let w = h.stands.within in omega (arith, w)) h.wait
+pub under_limit : (lib : Library) (limit : ℕ) (ran : Outcome × Calls) (q : ℕ) (x : ℤ) (frame : Frame) (callers : List Frame) (nodes : List NodeRun) (left : ℕ) → IsUnder lib limit ran q x frame callers nodes left → left ≤ limit
+under_limit lib limit ran q x frame callers nodes left h = left_within lib limit left frame callers h.befores (let w = h.stands.within in omega (arith, w)) h.wait
 
 -- ---- a call
 
@@ -114,17 +114,16 @@ bottom_same a b [] en ea = ap (λ (m : ℕ). (m, a.arg)) en ∙ ap (λ (z : ℤ)
 bottom_same a b (f ∷ fs) en ea = refl
 
 -- a call of a name that is there
-pub called : (lib : Library) (limit q : ℕ) (x : ℤ) (frame caller callee : Frame) (callers : List Frame) (nodes : List NodeRun) (n left r : ℕ) (y : ℤ) (p : Text)
-    → IsUnder lib limit q x frame callers nodes n → Advances frame.machine n (stop.Call r y) left caller.machine → left ≤ n
+pub called : (lib : Library) (limit : ℕ) (ran : Outcome × Calls) (q : ℕ) (x : ℤ) (frame caller callee : Frame) (callers : List Frame) (nodes : List NodeRun) (n left r : ℕ) (y : ℤ) (p : Text)
+    → IsUnder lib limit ran q x frame callers nodes n → Advances frame.machine n (stop.Call r y) left caller.machine → left ≤ n
     → caller ≡ record frame { machine = caller.machine } → caller.machine.program ≡ frame.machine.program → caller.machine.phase ≡ IsWaiting
     → lib r ≡ Some p → Begins callee.machine p y → callee.machine.program ≡ p → callee.machine.phase ≡ Ready → callee.program.now ≡ p
     → callee.name ≡ r → callee.arg ≡ y → callee.given ≡ left → callee.calls.items ≡ [] → callee.below ≡ 0
-    → IsUnder lib limit q x callee (caller ∷ callers) nodes left
-called lib limit q x frame caller callee callers nodes n left r y p u adv le is text waits here start begun ready program name arg given calls below =
+    → IsUnder lib limit ran q x callee (caller ∷ callers) nodes left
+called lib limit ran q x frame caller callee callers nodes n left r y p u adv le is text waits here start begun ready program name arg given calls below =
     let st = u.stands in
     let caller_stands : Stands lib caller u.before callee.given = record {
       text = text ∙ st.text ∙ sym (ap (λ (f : Frame). f.program.now) is);
-      here = subst (λ (f : Frame). lib f.name ≡ Some f.program.now) (sym is) st.here;
       calls = ap (λ (f : Frame). f.calls.items) is ∙ st.calls;
       below = ap (λ (f : Frame). f.below) is ∙ st.below;
       within = (let a = ap (λ (f : Frame). f.below) is in let b = ap (λ (f : Frame). f.given) is in let w = st.within in omega (arith, a, b, w, given, le));
@@ -141,7 +140,6 @@ called lib limit q x frame caller callee callers nodes n left r y p u adv le is 
       ready = ready;
       stands = record {
         text = begun ∙ sym program;
-        here = subst (λ (m : ℕ). lib m ≡ Some callee.program.now) (sym name) (subst (λ (t : Text). lib r ≡ Some t) (sym program) here);
         calls = calls;
         below = below;
         within = omega (arith, below, given);
@@ -172,17 +170,17 @@ node_is frame before v used node h =
     ∙ ap (N frame.name frame.arg v (used - steps_below before)) h.calls
 
 -- the innermost run ends with a value, and its caller goes on
-pub answered : (lib : Library) (limit q : ℕ) (x : ℤ) (frame caller next : Frame) (callers : List Frame) (nodes : List NodeRun) (node : NodeRun) (n left used : ℕ) (v : ℤ) (new : State)
-    → (u : IsUnder lib limit q x frame (caller ∷ callers) nodes n) → Advances frame.machine n (stop.Done v) left new → used + left ≡ frame.given
+pub answered : (lib : Library) (limit : ℕ) (ran : Outcome × Calls) (q : ℕ) (x : ℤ) (frame caller next : Frame) (callers : List Frame) (nodes : List NodeRun) (node : NodeRun) (n left used : ℕ) (v : ℤ) (new : State)
+    → (u : IsUnder lib limit ran q x frame (caller ∷ callers) nodes n) → Advances frame.machine n (stop.Done v) left new → used + left ≡ frame.given
     → TakesAnswer caller.machine v next.machine → next.machine.phase ≡ Ready → next.machine.program ≡ caller.machine.program → next.program.now ≡ caller.program.now
     → next.name ≡ caller.name → next.arg ≡ caller.arg → next.given ≡ caller.given → next.calls.items ≡ caller.calls.items ++ record { name = frame.name; arg = frame.arg } ∷ [] → next.below ≡ caller.below + used
     → IsNode frame u.before v used node
-    → IsUnder lib limit q x next callers (nodes ++ node ∷ []) left
-answered lib limit q x frame caller next callers nodes node n left used v new u adv sum takes ready text program name arg given calls below is_node = by_befores u.befores u.wait u.nodes_are u.run
+    → IsUnder lib limit ran q x next callers (nodes ++ node ∷ []) left
+answered lib limit ran q x frame caller next callers nodes node n left used v new u adv sum takes ready text program name arg given calls below is_node = by_befores u.befores u.wait u.nodes_are u.run
   where
     by_befores : (bs : List Calls) → Wait lib limit frame (caller ∷ callers) bs → nodes ≡ nodes_before (waiting frame (caller ∷ callers) bs) ++ nodes_in u.before
-        → outcome_of limit (unwind lib (waiting frame (caller ∷ callers) bs) (after_calls u.before (run_on (run_name lib) frame.machine n))) ≡ run_name lib q x limit
-        → IsUnder lib limit q x next callers (nodes ++ node ∷ []) left
+        → outcome_of limit (unwind lib (waiting frame (caller ∷ callers) bs) (after_calls u.before (run_on (run_name lib) frame.machine n))) ≡ ran
+        → IsUnder lib limit ran q x next callers (nodes ++ node ∷ []) left
     by_befores [] w nodes_are run = absurd w
     by_befores (b ∷ bs) w nodes_are run =
         let f : Waiting = record { state = caller.machine; before = b; name = frame.name; arg = frame.arg; given = frame.given } in
@@ -198,7 +196,6 @@ answered lib limit q x frame caller next callers nodes node n left used v new u 
           ready = ready;
           stands = record {
             text = text ∙ w.0.text ∙ sym program;
-            here = subst (λ (m : ℕ). lib m ≡ Some next.program.now) (sym name) (subst (λ (t : Text). lib caller.name ≡ Some t) (sym program) w.0.here);
             calls = calls ∙ ap (λ (ps : List Pair). ps ++ record { name = frame.name; arg = frame.arg } ∷ []) w.0.calls ∙ sym (direct_join b made);
             below = (let j = steps_join b made in let bb = w.0.below in omega (arith, j, bb, below));
             within = (let ww = w.0.within in omega (arith, ww, below, given, sum));
@@ -218,96 +215,96 @@ answered lib limit q x frame caller next callers nodes node n left used v new u 
 
 -- ---- ends
 
--- what the run of a name comes to, told as the code has it
-told_run : (lib : Library) (q : ℕ) (x : ℤ) (n left : ℕ) (run : Run) (o : Outcome) (c : Calls) → run_name lib q x n ≡ (o, c) → run.outcome ≡ told o → run.nodes ≡ nodes_of q x (o, c) → steps_of o + left ≡ n → IsRun lib q x n run left
-told_run lib q x n left run o c is outcome nodes steps = record {
+-- what the whole run comes to, told as the code has it
+told_run : (ran : Outcome × Calls) (q : ℕ) (x : ℤ) (n left : ℕ) (run : Run) (o : Outcome) (c : Calls) → ran ≡ (o, c) → run.outcome ≡ told o → run.nodes ≡ nodes_of q x (o, c) → steps_of o + left ≡ n → IsRun ran q x n run left
+told_run ran q x n left run o c is outcome nodes steps = record {
   outcome = outcome ∙ sym (ap (λ (r : Outcome × Calls). told r.0) is);
   nodes = nodes ∙ sym (ap (λ (r : Outcome × Calls). nodes_of q x r) is);
   steps = ap (λ (r : Outcome × Calls). steps_of r.0 + left) is ∙ steps;
 }
 
 -- a fault ends the whole run
-ended_failed : (lib : Library) (limit q : ℕ) (x : ℤ) (frame : Frame) (callers : List Frame) (nodes : List NodeRun) (n left : ℕ) (k : FaultKind) (c : Calls) (run : Run)
-    → (u : IsUnder lib limit q x frame callers nodes n) → left ≤ n → after_calls u.before (run_on (run_name lib) frame.machine n) ≡ failed k left c → nodes_in c ≡ nodes_in u.before
-    → run.outcome ≡ told_as.Fault k (limit - left) → run.nodes ≡ nodes → IsRun lib q x limit run left
-ended_failed lib limit q x frame callers nodes n left k c run u le is same_nodes outcome are =
+ended_failed : (lib : Library) (limit : ℕ) (ran : Outcome × Calls) (q : ℕ) (x : ℤ) (frame : Frame) (callers : List Frame) (nodes : List NodeRun) (n left : ℕ) (k : FaultKind) (c : Calls) (run : Run)
+    → (u : IsUnder lib limit ran q x frame callers nodes n) → left ≤ n → after_calls u.before (run_on (run_name lib) frame.machine n) ≡ failed k left c → nodes_in c ≡ nodes_in u.before
+    → run.outcome ≡ told_as.Fault k (limit - left) → run.nodes ≡ nodes → IsRun ran q x limit run left
+ended_failed lib limit ran q x frame callers nodes n left k c run u le is same_nodes outcome are =
     let ws = waiting frame callers u.befores in
     let given = given_left lib limit left frame callers u.befores (let w = u.stands.within in omega (arith, w, le)) u.wait in
-    let bound = under_limit lib limit q x frame callers nodes n u in
+    let bound = under_limit lib limit ran q x frame callers nodes n u in
     let all = unwind_failed lib ws k left c given in
-    let whole : run_name lib q x limit ≡ (fault k (limit - left), all.0) = sym u.run ∙ ap (λ (e : Ending). outcome_of limit (unwind lib ws e)) is ∙ ap (outcome_of limit) all.1 in
-    told_run lib q x limit left run (fault k (limit - left)) all.0 whole outcome
+    let whole : ran ≡ (fault k (limit - left), all.0) = sym u.run ∙ ap (λ (e : Ending). outcome_of limit (unwind lib ws e)) is ∙ ap (outcome_of limit) all.1 in
+    told_run ran q x limit left run (fault k (limit - left)) all.0 whole outcome
     (are ∙ u.nodes_are ∙ ap (λ (ns : List NodeRun). nodes_before ws ++ ns) (sym same_nodes) ∙ sym all.2 ∙ sym (append-nil _)) (omega (arith, bound, le))
 
-pub faulted : (lib : Library) (limit q : ℕ) (x : ℤ) (frame : Frame) (callers : List Frame) (nodes : List NodeRun) (n left : ℕ) (k : FaultKind) (new : State) (run : Run)
-    → IsUnder lib limit q x frame callers nodes n → left ≤ n → Advances frame.machine n (stop.Fault k) left new
-    → run.outcome ≡ told_as.Fault k (limit - left) → run.nodes ≡ nodes → IsRun lib q x limit run left
-faulted lib limit q x frame callers nodes n left k new run u le adv outcome are =
-    ended_failed lib limit q x frame callers nodes n left k (join u.before none) run u le (ap (after_calls u.before) (adv (run_name lib))) (ap nodes_in (join-none u.before)) outcome are
+pub faulted : (lib : Library) (limit : ℕ) (ran : Outcome × Calls) (q : ℕ) (x : ℤ) (frame : Frame) (callers : List Frame) (nodes : List NodeRun) (n left : ℕ) (k : FaultKind) (new : State) (run : Run)
+    → IsUnder lib limit ran q x frame callers nodes n → left ≤ n → Advances frame.machine n (stop.Fault k) left new
+    → run.outcome ≡ told_as.Fault k (limit - left) → run.nodes ≡ nodes → IsRun ran q x limit run left
+faulted lib limit ran q x frame callers nodes n left k new run u le adv outcome are =
+    ended_failed lib limit ran q x frame callers nodes n left k (join u.before none) run u le (ap (after_calls u.before) (adv (run_name lib))) (ap nodes_in (join-none u.before)) outcome are
 
-pub missing : (lib : Library) (limit q : ℕ) (x : ℤ) (frame : Frame) (callers : List Frame) (nodes : List NodeRun) (n left r : ℕ) (y : ℤ) (new : State) (run : Run)
-    → IsUnder lib limit q x frame callers nodes n → left ≤ n → Advances frame.machine n (stop.Call r y) left new → lib r ≡ None
-    → run.outcome ≡ told_as.Fault Missing (limit - left) → run.nodes ≡ nodes → IsRun lib q x limit run left
-missing lib limit q x frame callers nodes n left r y new run u le adv gone outcome are =
+pub missing : (lib : Library) (limit : ℕ) (ran : Outcome × Calls) (q : ℕ) (x : ℤ) (frame : Frame) (callers : List Frame) (nodes : List NodeRun) (n left r : ℕ) (y : ℤ) (new : State) (run : Run)
+    → IsUnder lib limit ran q x frame callers nodes n → left ≤ n → Advances frame.machine n (stop.Call r y) left new → lib r ≡ None
+    → run.outcome ≡ told_as.Fault Missing (limit - left) → run.nodes ≡ nodes → IsRun ran q x limit run left
+missing lib limit ran q x frame callers nodes n left r y new run u le adv gone outcome are =
     let c : Calls = join u.before (call r y (fault Missing 0) none none) in
     let ws = waiting frame callers u.befores in
     let given = given_left lib limit left frame callers u.befores (let w = u.stands.within in omega (arith, w, le)) u.wait in
-    let bound = under_limit lib limit q x frame callers nodes n u in
+    let bound = under_limit lib limit ran q x frame callers nodes n u in
     let all = unwind_failed lib ws Missing left c given in
     let same : nodes_in c ≡ nodes_in u.before = nodes_join u.before (call r y (fault Missing 0) none none) ∙ append-nil (nodes_in u.before) in
-    let whole : run_name lib q x limit ≡ (fault Missing (limit - left), all.0) = sym u.run ∙ ap (outcome_of limit) (missing_call lib ws u.before frame.machine new n left r y adv gone) ∙ ap (outcome_of limit) all.1 in
-    told_run lib q x limit left run (fault Missing (limit - left)) all.0 whole outcome
+    let whole : ran ≡ (fault Missing (limit - left), all.0) = sym u.run ∙ ap (outcome_of limit) (missing_call lib ws u.before frame.machine new n left r y adv gone) ∙ ap (outcome_of limit) all.1 in
+    told_run ran q x limit left run (fault Missing (limit - left)) all.0 whole outcome
     (are ∙ u.nodes_are ∙ ap (λ (ns : List NodeRun). nodes_before ws ++ ns) (sym same) ∙ sym all.2 ∙ sym (append-nil _)) (omega (arith, bound, le))
 
-pub ran_out : (lib : Library) (limit q : ℕ) (x : ℤ) (frame : Frame) (callers : List Frame) (nodes : List NodeRun) (n left : ℕ) (new : State) (run : Run)
-    → IsUnder lib limit q x frame callers nodes n → left ≤ n → Advances frame.machine n stop.Spent left new
-    → run.outcome ≡ told_as.OutOfSteps → run.nodes ≡ nodes → IsRun lib q x limit run left
-ran_out lib limit q x frame callers nodes n left new run u le adv outcome are =
+pub ran_out : (lib : Library) (limit : ℕ) (ran : Outcome × Calls) (q : ℕ) (x : ℤ) (frame : Frame) (callers : List Frame) (nodes : List NodeRun) (n left : ℕ) (new : State) (run : Run)
+    → IsUnder lib limit ran q x frame callers nodes n → left ≤ n → Advances frame.machine n stop.Spent left new
+    → run.outcome ≡ told_as.OutOfSteps → run.nodes ≡ nodes → IsRun ran q x limit run left
+ran_out lib limit ran q x frame callers nodes n left new run u le adv outcome are =
     let c : Calls = join u.before none in
     let ws = waiting frame callers u.befores in
     let given = given_left lib limit left frame callers u.befores (let w = u.stands.within in omega (arith, w, le)) u.wait in
-    let bound = under_limit lib limit q x frame callers nodes n u in
+    let bound = under_limit lib limit ran q x frame callers nodes n u in
     let all = unwind_spent lib ws left c given in
-    let whole : run_name lib q x limit ≡ (out (limit - left), all.0) = sym u.run ∙ ap (λ (e : Ending). outcome_of limit (unwind lib ws (after_calls u.before e))) (adv (run_name lib)) ∙ ap (outcome_of limit) all.1 in
-    told_run lib q x limit left run (out (limit - left)) all.0 whole outcome
+    let whole : ran ≡ (out (limit - left), all.0) = sym u.run ∙ ap (λ (e : Ending). outcome_of limit (unwind lib ws (after_calls u.before e))) (adv (run_name lib)) ∙ ap (outcome_of limit) all.1 in
+    told_run ran q x limit left run (out (limit - left)) all.0 whole outcome
     (are ∙ u.nodes_are ∙ ap (λ (ns : List NodeRun). nodes_before ws ++ ns) (ap nodes_in (sym (join-none u.before))) ∙ sym all.2 ∙ sym (append-nil _)) (omega (arith, bound, le))
 
 -- the run at the bottom ends with a value
-pub finished : (lib : Library) (limit q : ℕ) (x : ℤ) (frame : Frame) (nodes : List NodeRun) (node : NodeRun) (n left used : ℕ) (v : ℤ) (new : State) (run : Run)
-    → (u : IsUnder lib limit q x frame [] nodes n) → Advances frame.machine n (stop.Done v) left new → used + left ≡ frame.given → IsNode frame u.before v used node
-    → run.outcome ≡ told_as.Value v used → run.nodes ≡ nodes ++ node ∷ [] → IsRun lib q x limit run left
-finished lib limit q x frame nodes node n left used v new run u adv sum is_node outcome are = by_befores u.befores u.wait u.nodes_are u.run
+pub finished : (lib : Library) (limit : ℕ) (ran : Outcome × Calls) (q : ℕ) (x : ℤ) (frame : Frame) (nodes : List NodeRun) (node : NodeRun) (n left used : ℕ) (v : ℤ) (new : State) (run : Run)
+    → (u : IsUnder lib limit ran q x frame [] nodes n) → Advances frame.machine n (stop.Done v) left new → used + left ≡ frame.given → IsNode frame u.before v used node
+    → run.outcome ≡ told_as.Value v used → run.nodes ≡ nodes ++ node ∷ [] → IsRun ran q x limit run left
+finished lib limit ran q x frame nodes node n left used v new run u adv sum is_node outcome are = by_befores u.befores u.wait u.nodes_are u.run
   where
     by_befores : (bs : List Calls) → Wait lib limit frame [] bs → nodes ≡ nodes_before (waiting frame [] bs) ++ nodes_in u.before
-        → outcome_of limit (unwind lib (waiting frame [] bs) (after_calls u.before (run_on (run_name lib) frame.machine n))) ≡ run_name lib q x limit → IsRun lib q x limit run left
+        → outcome_of limit (unwind lib (waiting frame [] bs) (after_calls u.before (run_on (run_name lib) frame.machine n))) ≡ ran → IsRun ran q x limit run left
     by_befores (b ∷ bs) w nodes_are whole = absurd w
     by_befores [] w nodes_are whole =
         let d = adv (run_name lib) in
         let spent_is : limit - left ≡ used = omega (arith, w, sum) in
         let c = join u.before none in
-        let is : run_name lib q x limit ≡ (value v used, c) =
+        let is : ran ≡ (value v used, c) =
         sym whole ∙ ap (λ (e : Ending). outcome_of limit (after_calls u.before e)) d.1 ∙ ap (λ (z : ℤ). (value z (limit - left), c)) d.2 ∙ ap (λ (s : ℕ). (value v s, c)) spent_is in
         let name_is : frame.name ≡ q = ap (λ (b : ℕ × ℤ). b.0) u.bottom_is in
         let arg_is : frame.arg ≡ x = ap (λ (b : ℕ × ℤ). b.1) u.bottom_is in
         let list : node ∷ [] ≡ node_of q x (value v used) c =
         node_is frame u.before v used node is_node ∙ ap (node_of frame.name frame.arg (value v used)) (sym (join-none u.before))
         ∙ ap (λ (m : ℕ). node_of m frame.arg (value v used) c) name_is ∙ ap (λ (z : ℤ). node_of q z (value v used) c) arg_is in
-        told_run lib q x limit left run (value v used) c is outcome
+        told_run ran q x limit left run (value v used) c is outcome
         (are ∙ ap (λ (ns : List NodeRun). ns ++ node ∷ []) (nodes_are ∙ ap nodes_in (sym (join-none u.before))) ∙ ap (λ (ns : List NodeRun). nodes_in c ++ ns) list) (omega (arith, w, sum))
 
 -- ---- what the code has
 
-pub moved : (lib : Library) (limit q : ℕ) (x : ℤ) (frame : Frame) (cs ds : List Frame) (ns ms : List NodeRun) (left : ℕ) → ds ≡ cs → ms ≡ ns → IsUnder lib limit q x frame cs ns left → IsUnder lib limit q x frame ds ms left
-moved lib limit q x frame cs ds ns ms left ec en u =
-    subst (λ (z : List Frame). IsUnder lib limit q x frame z ms left) (sym ec) (subst (λ (z : List NodeRun). IsUnder lib limit q x frame cs z left) (sym en) u)
+pub moved : (lib : Library) (limit : ℕ) (ran : Outcome × Calls) (q : ℕ) (x : ℤ) (frame : Frame) (cs ds : List Frame) (ns ms : List NodeRun) (left : ℕ) → ds ≡ cs → ms ≡ ns → IsUnder lib limit ran q x frame cs ns left → IsUnder lib limit ran q x frame ds ms left
+moved lib limit ran q x frame cs ds ns ms left ec en u =
+    subst (λ (z : List Frame). IsUnder lib limit ran q x frame z ms left) (sym ec) (subst (λ (z : List NodeRun). IsUnder lib limit ran q x frame cs z left) (sym en) u)
 
 -- the innermost caller waits, and its callee's steps fit
 pub record CallerWaits (caller callee : Frame) (limit : ℕ) : Type 0 where
   pub waits : caller.machine.phase ≡ IsWaiting
   pub room : caller.below + callee.given ≤ limit
 
-pub caller_waits : (lib : Library) (limit q : ℕ) (x : ℤ) (frame caller : Frame) (callers : List Frame) (nodes : List NodeRun) (left : ℕ) → IsUnder lib limit q x frame (caller ∷ callers) nodes left → CallerWaits caller frame limit
-caller_waits lib limit q x frame caller callers nodes left u = by_befores u.befores u.wait
+pub caller_waits : (lib : Library) (limit : ℕ) (ran : Outcome × Calls) (q : ℕ) (x : ℤ) (frame caller : Frame) (callers : List Frame) (nodes : List NodeRun) (left : ℕ) → IsUnder lib limit ran q x frame (caller ∷ callers) nodes left → CallerWaits caller frame limit
+caller_waits lib limit ran q x frame caller callers nodes left u = by_befores u.befores u.wait
   where
     by_befores : (bs : List Calls) → Wait lib limit frame (caller ∷ callers) bs → CallerWaits caller frame limit
     by_befores [] w = absurd w
@@ -316,9 +313,9 @@ caller_waits lib limit q x frame caller callers nodes left u = by_befores u.befo
       room = (let a = w.0.within in let top = left_within lib limit caller.given caller callers bs (omega arith) w.2 in omega (arith, a, top));
     }
 
-pub node_made : (lib : Library) (limit q : ℕ) (x : ℤ) (frame : Frame) (callers : List Frame) (nodes : List NodeRun) (n used : ℕ) (v : ℤ) (node : NodeRun) → (u : IsUnder lib limit q x frame callers nodes n)
+pub node_made : (lib : Library) (limit : ℕ) (ran : Outcome × Calls) (q : ℕ) (x : ℤ) (frame : Frame) (callers : List Frame) (nodes : List NodeRun) (n used : ℕ) (v : ℤ) (node : NodeRun) → (u : IsUnder lib limit ran q x frame callers nodes n)
     → node.pair ≡ record { name = frame.name; arg = frame.arg } → node.value ≡ v → node.own + frame.below ≡ used → node.calls ≡ frame.calls.items → IsNode frame u.before v used node
-node_made lib limit q x frame callers nodes n used v node u pair_is value_is own calls = record {
+node_made lib limit ran q x frame callers nodes n used v node u pair_is value_is own calls = record {
   name = ap (λ (p : Pair). p.name) pair_is;
   arg = ap (λ (p : Pair). p.arg) pair_is;
   value = value_is;
@@ -326,5 +323,5 @@ node_made lib limit q x frame callers nodes n used v node u pair_is value_is own
   calls = calls ∙ u.stands.calls;
 }
 
-pub given_back : (lib : Library) (limit q : ℕ) (x : ℤ) (frame : Frame) (callers : List Frame) (nodes : List NodeRun) (n left : ℕ) → IsUnder lib limit q x frame callers nodes n → left ≤ n → (frame.given - left) + left ≡ frame.given
-given_back lib limit q x frame callers nodes n left u le = let w = u.stands.within in omega (arith, w, le)
+pub given_back : (lib : Library) (limit : ℕ) (ran : Outcome × Calls) (q : ℕ) (x : ℤ) (frame : Frame) (callers : List Frame) (nodes : List NodeRun) (n left : ℕ) → IsUnder lib limit ran q x frame callers nodes n → left ≤ n → (frame.given - left) + left ≡ frame.given
+given_back lib limit ran q x frame callers nodes n left u le = let w = u.stands.within in omega (arith, w, le)

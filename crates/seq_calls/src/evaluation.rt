@@ -1,7 +1,7 @@
 //! Runs of programs with their calls.
 
-ghost use Rattle.std.specs.Prelude.{◌≡◌, ◌+◌, ◌≤◌, ◌<◌, Some, IfOk, OnOk};
-ghost use Rattle.loda_semantics.specs.Exec.{run_name};
+ghost use Rattle.std.specs.Prelude.{◌≡◌, ◌+◌, ◌≤◌, ◌<◌, IfOk, OnOk};
+ghost use Rattle.loda_semantics.specs.Exec.{run_name, run_text};
 ghost use Rattle.seq_calls.specs.Frames.{told, steps_of, nodes_of};
 ghost use Rattle.seq_calls.specs.Under.{IsRun};
 
@@ -35,7 +35,7 @@ fn ended(outcome: Outcome, nodes: Vec<NodeRun>) -> Run
     }
 }
 
-// A run of a name's program, with a frame for each run that has not ended.
+// A run of a program under a name, with a frame for each run that has not ended.
 fn run_frames<'a, B: Library>(
     alloc: Global,
     lib: &'a B,
@@ -44,8 +44,7 @@ fn run_frames<'a, B: Library>(
     arg: Num,
     budget: &mut u64,
 ) -> Result<Run, AllocError>
-    requires { B.programs lib.now name ≡ Some program.now }
-    ensures run { IfOk result (λ run. IsRun (B.programs lib.now) name arg budget.old run budget.new) }
+    ensures run { IfOk result (λ run. IsRun (run_text (B.programs lib.now) program.now arg budget.old) name arg budget.old run budget.new) }
     ensures budget { budget.new ≤ budget.old }
 {
     let limit = *budget;
@@ -124,7 +123,7 @@ fn run_name<B: Library>(
     arg: Num,
     budget: &mut u64,
 ) -> Result<Run, AllocError>
-    ensures run { IfOk result (λ run. IsRun (B.programs lib.now) name arg budget.old run budget.new) }
+    ensures run { IfOk result (λ run. IsRun (run_name (B.programs lib.now) name arg budget.old) name arg budget.old run budget.new) }
     ensures budget { budget.new ≤ budget.old }
 {
     match lib.program(name) {
@@ -134,6 +133,32 @@ fn run_name<B: Library>(
             Ok(ended(Outcome::Fault { kind, steps: 0 }, Vec::new(alloc)))
         }
     }
+}
+
+// Stands for the name of a program that has none. The finished run under it is not given out.
+const UNNAMED: u32 = 0;
+
+/// Runs a program that has no name at an argument, with at most `limit` steps, those of its calls included.
+///
+/// The outcome and the exact steps are those of the language, its calls being those of the library's programs. The count
+/// rises as that of `evaluate` does.
+pub fn evaluate_text<B: Library, L: Ledger>(
+    alloc: Global,
+    lib: &B,
+    program: &Program,
+    arg: Num,
+    limit: u64,
+    steps: &mut Steps<L>,
+) -> Result<Outcome, AllocError>
+    ensures outcome { IfOk result (λ outcome. outcome ≡ told (run_text (B.programs lib.now) program.now arg limit).0) }
+    ensures counted { OnOk result (steps.new ≡ steps.old + steps_of (run_text (B.programs lib.now) program.now arg limit).0) }
+    ensures bounded { steps.new ≤ steps.old + limit }
+{
+    let mut left = limit;
+    let ran = run_frames(alloc, lib, program, UNNAMED, arg, &mut left);
+    steps.tick(limit - left);
+    let outcome = ran?.outcome;
+    Ok(outcome)
 }
 
 /// The same where nobody counts the steps.

@@ -9,7 +9,7 @@ mod pairs_list;
 mod unfinished;
 
 pub use counting::Steps;
-pub use evaluation::{Run, evaluate, evaluate_alone};
+pub use evaluation::{Run, evaluate, evaluate_alone, evaluate_text};
 pub use finished::Frames;
 pub use loda_semantics::Pair;
 pub use outcomes::{NodeRun, Outcome};

@@ -1,11 +1,12 @@
 use Rattle.std.proofs.Common.{◌≡◌, ◌+◌, ◌*◌, ◌≤◌, ℕ, length}
 use Rattle.std.specs.Prelude.{reverse}
+use Rattle.loda_semantics.specs.Exec.{run_text}
 use Rattle.seq_calls.proofs.Under.{IsUnder}
 use Rattle.seq_calls.proofs.evaluation.run_frames.Given as goal
 
 abbrev pub invariant-loop-frame : goal.invariant-loop-frame
 invariant-loop-frame g l = record {
-  under : IsUnder (g.B.Library.programs l.lib) l.limit l.fn.name l.fn.arg l.frame (reverse l.stack.items) l.nodes.items l.budget;
+  under : IsUnder (g.B.Library.programs l.lib) l.limit (run_text (g.B.Library.programs l.lib) l.fn.program l.fn.arg l.limit) l.fn.name l.fn.arg l.frame (reverse l.stack.items) l.nodes.items l.budget;
   within : l.budget ≤ l.limit;
   limit : l.limit ≡ l.fn.budget;
 }
