@@ -1,11 +1,19 @@
 -- What a run by frames gives.
-use Rattle.std.specs.Prelude.{ℕ, ◌+◌, ◌≡◌, ℤ}
+use Rattle.std.specs.Prelude.{ℕ, ◌+◌, ◌≡◌, ℤ, List, [], ◌++◌}
+use Rattle.std.specs.declared.option.Option.{Option}
+use Rattle.std.specs.declared.option.Option.TheVariants.{Some, None}
 use Rattle.loda_semantics.specs.Exec.{Outcome, Calls}
 use Rattle.seq_calls.specs.declared.evaluation.Run.{Run}
-use Rattle.seq_calls.specs.Frames.{told, steps_of, nodes_of}
+use Rattle.seq_calls.specs.declared.outcomes.NodeRun.{NodeRun}
+use Rattle.seq_calls.specs.Frames.{told, steps_of, node_of, nodes_in}
 
--- Of a run of q at x that comes to this: the outcome, the finished runs and the steps that are left of n.
-pub record IsRun (ran : Outcome × Calls) (q : ℕ) (x : ℤ) (n : ℕ) (run : Run) (left : ℕ) : Type 0 where
+-- the run's own finished run, which a program without a name has none of
+abbrev pub own_node : Option ℕ → ℤ → Outcome → Calls → List NodeRun
+own_node (Some q) x o c = node_of q x o c
+own_node None x o c = []
+
+-- Of a run at x, under a name or none, that comes to this: the outcome, the finished runs and the steps that are left of n.
+pub record IsRun (ran : Outcome × Calls) (name : Option ℕ) (x : ℤ) (n : ℕ) (run : Run) (left : ℕ) : Type 0 where
   pub outcome : run.outcome ≡ told ran.0
-  pub nodes : run.nodes ≡ nodes_of q x ran
+  pub nodes : run.nodes ≡ nodes_in ran.1 ++ own_node name x ran.0 ran.1
   pub steps : steps_of ran.0 + left ≡ n

@@ -1,6 +1,6 @@
 //! Runs of programs with their calls.
 
-ghost use Rattle.std.specs.Prelude.{◌≡◌, ◌+◌, ◌≤◌, ◌<◌, IfOk, OnOk};
+ghost use Rattle.std.specs.Prelude.{◌≡◌, ◌+◌, ◌≤◌, ◌<◌, Some, IfOk, OnOk};
 ghost use Rattle.loda_semantics.specs.Exec.{run_name, run_text};
 ghost use Rattle.seq_calls.specs.Frames.{told, steps_of, nodes_of};
 ghost use Rattle.seq_calls.specs.Under.{IsRun};
@@ -9,7 +9,7 @@ use crate::counting::Steps;
 use crate::finished::Frames;
 use crate::outcomes::{NodeRun, Outcome};
 use crate::pairs_list::Pairs;
-use crate::unfinished::{Frame, begin};
+use crate::unfinished::{Caller, begin};
 use checked_numbers::Num;
 use lex_loops::Stop;
 use loda_semantics::{FaultKind, Pair};
@@ -35,12 +35,13 @@ fn ended(outcome: Outcome, nodes: Vec<NodeRun>) -> Run
     }
 }
 
-// A run of a program under a name, with a frame for each run that has not ended.
+// A run of a program, with a frame for each run that has not ended. Where the program has a name, its own run is the last of
+// the finished ones.
 fn run_frames<'a, B: Library>(
     alloc: Global,
     lib: &'a B,
     program: &'a Program,
-    name: u32,
+    name: Option<u32>,
     arg: Num,
     budget: &mut u64,
 ) -> Result<Run, AllocError>
@@ -48,9 +49,9 @@ fn run_frames<'a, B: Library>(
     ensures budget { budget.new ≤ budget.old }
 {
     let limit = *budget;
-    let mut stack: Vec<Frame<'a>> = Vec::new(alloc);
+    let mut callers: Vec<Caller<'a>> = Vec::new(alloc);
     let mut nodes: Vec<NodeRun> = Vec::new(alloc);
-    let mut frame = begin(alloc, program, name, arg, limit)?;
+    let mut frame = begin(alloc, program, arg, limit)?;
     loop {
         let before = *budget;
         let text = frame.program;
@@ -64,23 +65,24 @@ fn run_frames<'a, B: Library>(
                 if *budget >= before {
                     return Err(AllocError);
                 }
-                let callee = begin(alloc, program, name, arg, *budget)?;
-                stack.push(frame)?;
+                let callee = begin(alloc, program, arg, *budget)?;
+                let call = Pair { name, arg };
+                callers.push(Caller { frame, call })?;
                 frame = callee;
             }
             Stop::Done(value) => {
                 let used = frame.given - *budget;
-                let pair = Pair {
-                    name: frame.name,
-                    arg: frame.arg,
+                let Some(caller) = callers.pop() else {
+                    let outcome = Outcome::Value { value, steps: used };
+                    let Some(name) = name else {
+                        return Ok(ended(outcome, nodes));
+                    };
+                    nodes.push(frame.end(alloc, Pair { name, arg }, value, used))?;
+                    return Ok(ended(outcome, nodes));
                 };
-                nodes.push(frame.end(alloc, value, used))?;
-                let Some(mut caller) = stack.pop() else {
-                    let steps = used;
-                    return Ok(ended(Outcome::Value { value, steps }, nodes));
-                };
-                caller.go_on(pair, value, used)?;
-                frame = caller;
+                nodes.push(frame.end(alloc, caller.call, value, used))?;
+                frame = caller.frame;
+                frame.go_on(caller.call, value, used)?;
             }
             Stop::Fault(kind) => {
                 let steps = limit - *budget;
@@ -123,20 +125,17 @@ fn run_name<B: Library>(
     arg: Num,
     budget: &mut u64,
 ) -> Result<Run, AllocError>
-    ensures run { IfOk result (λ run. IsRun (run_name (B.programs lib.now) name arg budget.old) name arg budget.old run budget.new) }
+    ensures run { IfOk result (λ run. IsRun (run_name (B.programs lib.now) name arg budget.old) (Some name) arg budget.old run budget.new) }
     ensures budget { budget.new ≤ budget.old }
 {
     match lib.program(name) {
-        Some(program) => run_frames(alloc, lib, program, name, arg, budget),
+        Some(program) => run_frames(alloc, lib, program, Some(name), arg, budget),
         None => {
             let kind = FaultKind::Missing;
             Ok(ended(Outcome::Fault { kind, steps: 0 }, Vec::new(alloc)))
         }
     }
 }
-
-// Stands for the name of a program that has none. The finished run under it is not given out.
-const UNNAMED: u32 = 0;
 
 /// Runs a program that has no name at an argument, with at most `limit` steps, those of its calls included.
 ///
@@ -155,7 +154,7 @@ pub fn evaluate_text<B: Library, L: Ledger>(
     ensures bounded { steps.new ≤ steps.old + limit }
 {
     let mut left = limit;
-    let ran = run_frames(alloc, lib, program, UNNAMED, arg, &mut left);
+    let ran = run_frames(alloc, lib, program, None, arg, &mut left);
     steps.tick(limit - left);
     let outcome = ran?.outcome;
     Ok(outcome)

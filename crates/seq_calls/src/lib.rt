@@ -6,6 +6,8 @@ mod evaluation;
 mod finished;
 mod outcomes;
 mod pairs_list;
+#[cfg(test)]
+mod tests;
 mod unfinished;
 
 pub use counting::Steps;

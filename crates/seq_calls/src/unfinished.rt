@@ -1,9 +1,8 @@
-//! Runs of names that have not ended.
+//! Runs that have not ended.
 
 ghost use Rattle.std.specs.Prelude.{◌≡◌, ◌+◌, ◌<◌, ◌≤◌, ◌^◌, ◌++◌, ◌∷◌, [], IfOk, OnOk};
 ghost use Rattle.lex_loops.specs.State.{Begins, TakesAnswer};
 ghost use Rattle.lex_loops.specs.declared.stop.Phase.TheVariants as phase;
-ghost use Rattle.seq_calls.specs.Frames.{pair as pair_of};
 
 use crate::outcomes::NodeRun;
 use crate::pairs_list::Pairs;
@@ -14,23 +13,27 @@ use loda_syntax::Program;
 use std::alloc::{AllocError, Global};
 use std::mem;
 
-/// A run of a name: its machine and program, how many steps it was given, its calls so far, and the steps that they used.
+/// A run: its machine and program, how many steps it was given, its calls so far, and the steps that they used.
 #[derive(Drop)]
 pub struct Frame<'a> {
     pub machine: Machine,
     pub program: &'a Program,
-    pub name: u32,
-    pub arg: Num,
     pub given: u64,
     pub calls: Vec<Pair>,
     pub below: u64,
+}
+
+/// A run that waits for the value of a call.
+#[derive(Drop)]
+pub struct Caller<'a> {
+    pub frame: Frame<'a>,
+    pub call: Pair,
 }
 
 /// A run that begins.
 pub fn begin<'a>(
     alloc: Global,
     program: &'a Program,
-    name: u32,
     arg: Num,
     given: u64,
 ) -> Result<Frame<'a>, AllocError>
@@ -38,8 +41,6 @@ pub fn begin<'a>(
     ensures text { IfOk result (λ frame. frame.machine.program ≡ program.now) }
     ensures phase { IfOk result (λ frame. frame.machine.phase ≡ phase.Ready) }
     ensures program { IfOk result (λ frame. frame.program.now ≡ program.now) }
-    ensures name { IfOk result (λ frame. frame.name ≡ name) }
-    ensures arg { IfOk result (λ frame. frame.arg ≡ arg) }
     ensures given { IfOk result (λ frame. frame.given ≡ given) }
     ensures calls { IfOk result (λ frame. frame.calls.items ≡ []) }
     ensures below { IfOk result (λ frame. frame.below ≡ 0) }
@@ -48,8 +49,6 @@ pub fn begin<'a>(
     Ok(Frame {
         machine,
         program,
-        name,
-        arg,
         given,
         calls: Vec::new(alloc),
         below: 0,
@@ -57,20 +56,18 @@ pub fn begin<'a>(
 }
 
 impl Frame<'_> {
-    /// The frame's finished run: its value, the steps without those of its callees, and its calls, which the frame loses.
-    pub fn end(&mut self, alloc: Global, value: Num, used: u64) -> NodeRun
+    /// The finished run of the name and the argument that the frame was for: its value, the steps without those of its
+    /// callees, and its calls, which the frame loses.
+    pub fn end(&mut self, alloc: Global, pair: Pair, value: Num, used: u64) -> NodeRun
         requires { self.old.below ≤ used }
-        ensures pair { result.pair ≡ pair_of self.old.name self.old.arg }
+        ensures pair { result.pair ≡ pair }
         ensures value { result.value ≡ value }
         ensures own { result.own + self.old.below ≡ used }
         ensures calls { result.calls ≡ self.old.calls.items }
     {
         let calls = mem::replace(&mut self.calls, Vec::new(alloc));
         NodeRun {
-            pair: Pair {
-                name: self.name,
-                arg: self.arg,
-            },
+            pair,
             value,
             own: used - self.below,
             calls: Pairs::of(calls),
@@ -78,20 +75,18 @@ impl Frame<'_> {
     }
 
     /// Goes on with the value of a call that used so many steps.
-    pub fn go_on(&mut self, pair: Pair, value: Num, used: u64) -> Result<(), AllocError>
+    pub fn go_on(&mut self, call: Pair, value: Num, used: u64) -> Result<(), AllocError>
         requires waits { self.old.machine.phase ≡ phase.Waiting }
         requires room { self.old.below + used < 2 ^ 64 }
         ensures answer { OnOk result (TakesAnswer self.old.machine value self.new.machine) }
         ensures ready { OnOk result (self.new.machine.phase ≡ phase.Ready) }
         ensures text { OnOk result (self.new.machine.program ≡ self.old.machine.program) }
         ensures program { OnOk result (self.new.program.now ≡ self.old.program.now) }
-        ensures name { OnOk result (self.new.name ≡ self.old.name) }
-        ensures arg { OnOk result (self.new.arg ≡ self.old.arg) }
         ensures given { OnOk result (self.new.given ≡ self.old.given) }
-        ensures calls { OnOk result (self.new.calls.items ≡ self.old.calls.items ++ pair ∷ []) }
+        ensures calls { OnOk result (self.new.calls.items ≡ self.old.calls.items ++ call ∷ []) }
         ensures below { OnOk result (self.new.below ≡ self.old.below + used) }
     {
-        self.calls.push(pair)?;
+        self.calls.push(call)?;
         self.below += used;
         self.machine.answer(value);
         Ok(())

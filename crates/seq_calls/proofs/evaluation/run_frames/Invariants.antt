@@ -6,10 +6,11 @@ use Rattle.seq_calls.proofs.evaluation.run_frames.Given as goal
 
 abbrev pub invariant-loop-frame : goal.invariant-loop-frame
 invariant-loop-frame g l = record {
-  under : IsUnder (g.B.Library.programs l.lib) l.limit (run_text (g.B.Library.programs l.lib) l.fn.program l.fn.arg l.limit) l.fn.name l.fn.arg l.frame (reverse l.stack.items) l.nodes.items l.budget;
+  under : IsUnder (g.B.Library.programs l.lib) l.limit (run_text (g.B.Library.programs l.lib) l.fn.program l.fn.arg l.limit) l.frame (reverse l.callers.items) l.nodes.items l.budget;
   within : l.budget ≤ l.limit;
   limit : l.limit ≡ l.fn.budget;
+  name : l.name ≡ l.fn.name;
 }
 
 abbrev pub decreases-loop-frame : goal.decreases-loop-frame
-decreases-loop-frame g l = 2 * l.budget + length l.stack.items
+decreases-loop-frame g l = 2 * l.budget + length l.callers.items
