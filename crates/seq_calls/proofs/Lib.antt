@@ -1,3 +1,4 @@
+pub mod Costs
 pub mod Joined
 pub mod Unwind
 pub mod Under

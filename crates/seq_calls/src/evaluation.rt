@@ -53,7 +53,6 @@ fn run_frames<'a, B: Library>(
     let mut nodes: Vec<NodeRun> = Vec::new(alloc);
     let mut frame = begin(alloc, program, arg, limit)?;
     loop {
-        let before = *budget;
         let text = frame.program;
         match frame.machine.advance(text, budget)? {
             Stop::Call { name, arg } => {
@@ -62,9 +61,6 @@ fn run_frames<'a, B: Library>(
                     let kind = FaultKind::Missing;
                     return Ok(ended(Outcome::Fault { kind, steps }, nodes));
                 };
-                if *budget >= before {
-                    return Err(AllocError);
-                }
                 let callee = begin(alloc, program, arg, *budget)?;
                 let call = Pair { name, arg };
                 callers.push(Caller { frame, call })?;

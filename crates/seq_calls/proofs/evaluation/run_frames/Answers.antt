@@ -1,4 +1,4 @@
-use Rattle.std.proofs.Common.{ℕ, ◌+◌, ◌-◌, ◌≤◌, ◌<◌, ◌≡◌, refl, sym, ap, subst, ◌∙◌, arith, List, [], ◌∷◌, ◌++◌, take, append-nil}
+use Rattle.std.proofs.Common.{ℕ, ◌+◌, ◌-◌, ◌≤◌, ◌<◌, ◌≡◌, refl, sym, ap, subst, ◌∙◌, arith, List, [], ◌∷◌, ◌++◌, length, take, append-nil, length-append}
 use Rattle.std.specs.Prelude.{reverse, vec_len}
 use Rattle.std.specs.Option.{option_copied}
 use Rattle.std.proofs.lemmas.List.{reverse-append}
@@ -6,6 +6,7 @@ use Rattle.lex_loops.specs.declared.stop.Stop.{Stop}
 use Rattle.lex_loops.specs.State.{Advances, phase_after}
 use Rattle.seq_calls.specs.declared.unfinished.Caller.{Caller}
 use Rattle.seq_calls.specs.Frames.{pair}
+use Rattle.seq_calls.proofs.Costs.{call_costs}
 use Rattle.seq_calls.proofs.Under.{begins, caller_of, called, answered, missing, faulted, ran_out, finished, finished_alone, moved, caller_waits, node_made, given_back}
 use Rattle.seq_calls.proofs.evaluation.run_frames.Goals as goal
 
@@ -53,6 +54,14 @@ loop-frame-preserved-in-Call g c =
       limit = refl;
       name = c.loop-frame.invariant.name;
     }
+
+pub loop-frame-smaller-in-Call : goal.loop-frame-smaller-in-Call
+loop-frame-smaller-in-Call g c =
+    let fewer = call_costs c.loop-frame.frame.machine c.advance.new.self c.loop-frame.budget c.advance.new.budget c.in-Call.name c.in-Call.arg
+    (subst (λ (s : Stop). Advances c.loop-frame.frame.machine c.loop-frame.budget s c.advance.new.budget c.advance.new.self) c.in-Call.is c.in_ok-name.ensures.stops) in
+    let caller : Caller = caller_of c.loop-frame.frame c.advance.new.self c.in-Call.name c.in-Call.arg in
+    let more : length c.push.new.self.items ≡ length c.loop-frame.callers.items + 1 = ap (λ (xs : List Caller). length xs) c.in_ok-push-in-Call.ensures.items ∙ length-append c.loop-frame.callers.items (caller ∷ []) in
+    omega (arith, fewer, more)
 
 pub returns-in_default-name-clause-run : goal.returns-in_default-name-clause-run
 returns-in_default-name-clause-run g c =
