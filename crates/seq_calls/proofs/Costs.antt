@@ -1,5 +1,5 @@
 -- A call costs a step: fewer are left where a machine calls.
-use Rattle.std.proofs.Common.{ℕ, zero, suc, ◌+◌, ◌-◌, ◌<◌, ◌≤◌, ◌≡◌, refl, sym, ap, ◌∙◌, arith, ℤ, Bool, true, false, nat_lt, List, [], ◌∷◌, drop}
+use Rattle.std.proofs.Common.{ℕ, zero, suc, ◌-◌, ◌<◌, ◌≤◌, ◌≡◌, refl, sym, ap, ◌∙◌, arith, ℤ, Bool, true, false, nat_lt, List, [], ◌∷◌, drop}
 use Rattle.std.specs.Prelude.{if◌then◌else◌}
 use Rattle.loda_syntax.specs.declared.instr.Instr.{Instr}
 use Rattle.loda_syntax.specs.Programs.{instrs}

@@ -1,9 +1,9 @@
 -- What joined calls leave behind.
-use Rattle.std.proofs.Common.{ℕ, ◌+◌, ◌-◌, ◌≡◌, refl, sym, ap, ◌∙◌, arith, ℤ, List, [], ◌∷◌, ◌++◌, append_assoc, append-nil}
+use Rattle.std.proofs.Common.{◌+◌, ◌≡◌, refl, sym, ap, ◌∙◌, arith, List, ◌∷◌, ◌++◌, append_assoc}
 use Rattle.loda_semantics.specs.declared.kinds.Pair.{Pair}
-use Rattle.loda_semantics.specs.Exec.{Outcome, Calls, none, call, join, Ending, done, failed, spent, after_calls}
+use Rattle.loda_semantics.specs.Exec.{Calls, none, call, join, Ending, done, failed, spent, after_calls}
 use Rattle.seq_calls.specs.declared.outcomes.NodeRun.{NodeRun}
-use Rattle.seq_calls.specs.Frames.{direct, steps_of, steps_below, nodes_in, node_of}
+use Rattle.seq_calls.specs.Frames.{direct, steps_below, nodes_in, node_of}
 
 pub join-none : (c : Calls) → join c none ≡ c
 join-none none = refl

@@ -1,14 +1,12 @@
 -- What holds while frames run.
-use Rattle.std.proofs.Common.{ℕ, zero, suc, ◌+◌, ◌-◌, ◌≤◌, ◌≡◌, refl, sym, ap, subst, ◌∙◌, arith, ℤ, List, [], ◌∷◌, ◌++◌, append_assoc, append-nil}
+use Rattle.std.proofs.Common.{ℕ, ◌+◌, ◌-◌, ◌≤◌, ◌≡◌, refl, sym, ap, subst, ◌∙◌, arith, ℤ, List, [], ◌∷◌, ◌++◌, append_assoc, append-nil}
 use Rattle.std.specs.declared.option.Option.{Option}
 use Rattle.std.specs.declared.option.Option.TheVariants.{Some, None}
-use Rattle.loda_syntax.specs.Programs.{Text, instrs}
-use Rattle.loda_syntax.specs.Trees.{tree_of}
+use Rattle.loda_syntax.specs.Programs.{Text}
 use Rattle.loda_semantics.specs.declared.kinds.Pair.{Pair}
 use Rattle.loda_semantics.specs.declared.kinds.FaultKind.{FaultKind}
 use Rattle.loda_semantics.specs.declared.kinds.FaultKind.TheVariants.{Missing}
-use Rattle.loda_semantics.specs.Memory.{memory_with}
-use Rattle.loda_semantics.specs.Exec.{Outcome, value, fault, out, Calls, none, call, join, Ending, done, failed, spent, after_calls, Library, run_name, run_text, exec, outcome_of}
+use Rattle.loda_semantics.specs.Exec.{Outcome, value, fault, out, Calls, none, call, join, Ending, failed, after_calls, Library, run_name, run_text, outcome_of}
 use Rattle.loda_semantics.proofs.Laws.{run_text-is}
 use Rattle.lex_loops.specs.declared.stop.Stop.TheVariants as stop
 use Rattle.lex_loops.specs.declared.stop.Phase.TheVariants.{Ready, Waiting as IsWaiting}
@@ -16,7 +14,6 @@ use Rattle.lex_loops.specs.State.{State, run_on, Begins, Advances, TakesAnswer}
 use Rattle.seq_calls.specs.declared.unfinished.Frame.{Frame}
 use Rattle.seq_calls.specs.declared.unfinished.Caller.{Caller}
 use Rattle.seq_calls.specs.declared.outcomes.NodeRun.{NodeRun}
-use Rattle.seq_calls.specs.declared.outcomes.Outcome.{Outcome as Told}
 use Rattle.seq_calls.specs.declared.outcomes.Outcome.TheVariants as told_as
 use Rattle.seq_calls.specs.declared.evaluation.Run.{Run}
 use Rattle.seq_calls.specs.Frames.{pair, direct, steps_below, nodes_in, node_of, told, steps_of}

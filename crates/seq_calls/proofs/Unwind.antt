@@ -1,5 +1,5 @@
 -- Runs of callees inside one another: what the innermost comes to, the callers go on with.
-use Rattle.std.proofs.Common.{ℕ, zero, suc, ◌+◌, ◌-◌, ◌≤◌, ◌≡◌, refl, sym, ap, subst, ◌∙◌, arith, ℤ, List, [], ◌∷◌, ◌++◌, append_assoc, append-nil}
+use Rattle.std.proofs.Common.{ℕ, suc, ◌+◌, ◌-◌, ◌≤◌, ◌≡◌, refl, sym, ap, ◌∙◌, arith, ℤ, List, [], ◌∷◌, ◌++◌, append_assoc, append-nil}
 use Rattle.std.specs.declared.option.Option.{Option}
 use Rattle.std.specs.declared.option.Option.TheVariants.{Some, None}
 use Rattle.loda_syntax.specs.Programs.{Text, instrs}
@@ -7,14 +7,13 @@ use Rattle.loda_syntax.specs.Trees.{tree_of}
 use Rattle.loda_semantics.specs.declared.kinds.FaultKind.{FaultKind}
 use Rattle.loda_semantics.specs.declared.kinds.FaultKind.TheVariants.{Missing}
 use Rattle.loda_semantics.specs.Memory.{memory_with}
-use Rattle.loda_semantics.specs.Exec.{Outcome, value, fault, out, Calls, none, call, join, Ending, done, failed, spent, after_calls, Library, run_name, run_text, run_deep, exec, outcome_of}
+use Rattle.loda_semantics.specs.Exec.{value, fault, out, Calls, none, call, join, Ending, failed, spent, after_calls, Library, run_name, run_text, run_deep, exec, outcome_of}
 use Rattle.loda_semantics.proofs.Laws.{run_text-is}
-use Rattle.lex_loops.specs.declared.stop.Stop.{Stop}
 use Rattle.lex_loops.specs.declared.stop.Stop.TheVariants as stop
 use Rattle.lex_loops.specs.State.{State, run_on, run_answered, answered_by, Begins, Advances, TakesAnswer}
 use Rattle.seq_calls.specs.declared.outcomes.NodeRun.{NodeRun}
-use Rattle.seq_calls.specs.Frames.{nodes_in, node_of}
-use Rattle.seq_calls.proofs.Joined.{join-assoc, after-after, nodes_join}
+use Rattle.seq_calls.specs.Frames.{nodes_in}
+use Rattle.seq_calls.proofs.Joined.{after-after, nodes_join}
 
 -- a caller that waits: its state, its calls before this one, the call, and the steps that the callee was given
 pub record Waiting : Type 0 where

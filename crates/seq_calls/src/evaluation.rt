@@ -35,6 +35,13 @@ fn ended(outcome: Outcome, nodes: Vec<NodeRun>) -> Run
     }
 }
 
+fn failed(kind: FaultKind, steps: u64, nodes: Vec<NodeRun>) -> Run
+    ensures outcome { result.outcome ≡ Outcome.Fault kind steps }
+    ensures nodes { result.nodes ≡ nodes.items }
+{
+    ended(Outcome::Fault { kind, steps }, nodes)
+}
+
 // A run of a program, with a frame for each run that has not ended. Where the program has a name, its own run is the last of
 // the finished ones.
 fn run_frames<'a, B: Library>(
@@ -57,9 +64,7 @@ fn run_frames<'a, B: Library>(
         match frame.machine.advance(text, budget)? {
             Stop::Call { name, arg } => {
                 let Some(program) = lib.program(name) else {
-                    let steps = limit - *budget;
-                    let kind = FaultKind::Missing;
-                    return Ok(ended(Outcome::Fault { kind, steps }, nodes));
+                    return Ok(failed(FaultKind::Missing, limit - *budget, nodes));
                 };
                 let callee = begin(alloc, program, arg, *budget)?;
                 let call = Pair { name, arg };
@@ -80,10 +85,7 @@ fn run_frames<'a, B: Library>(
                 frame = caller.frame;
                 frame.go_on(caller.call, value, used)?;
             }
-            Stop::Fault(kind) => {
-                let steps = limit - *budget;
-                return Ok(ended(Outcome::Fault { kind, steps }, nodes));
-            }
+            Stop::Fault(kind) => return Ok(failed(kind, limit - *budget, nodes)),
             Stop::Spent => return Ok(ended(Outcome::OutOfSteps, nodes)),
         }
     }
@@ -126,10 +128,7 @@ fn run_name<B: Library>(
 {
     match lib.program(name) {
         Some(program) => run_frames(alloc, lib, program, Some(name), arg, budget),
-        None => {
-            let kind = FaultKind::Missing;
-            Ok(ended(Outcome::Fault { kind, steps: 0 }, Vec::new(alloc)))
-        }
+        None => Ok(failed(FaultKind::Missing, 0, Vec::new(alloc))),
     }
 }
 

@@ -1,4 +1,4 @@
-use Rattle.std.proofs.Common.{ℕ, ◌+◌, ◌-◌, ◌≤◌, ◌<◌, ◌≡◌, refl, sym, ap, subst, ◌∙◌, arith, List, [], ◌∷◌, ◌++◌, length, take, append-nil, length-append}
+use Rattle.std.proofs.Common.{ℕ, ◌+◌, ◌-◌, ◌≡◌, refl, sym, ap, subst, ◌∙◌, arith, List, [], ◌∷◌, ◌++◌, length, take, append-nil, length-append}
 use Rattle.std.specs.Prelude.{reverse, vec_len}
 use Rattle.std.specs.Option.{option_copied}
 use Rattle.std.proofs.lemmas.List.{reverse-append}
@@ -34,9 +34,9 @@ loop-frame-init g c =
 pub returns-in_default-clause-run : goal.returns-in_default-clause-run
 returns-in_default-clause-run g c =
     missing (g.B.Library.programs c.args.lib.now) c.args.budget.now _ c.args.name c.args.arg c.loop-frame.frame (reverse c.loop-frame.callers.items) c.loop-frame.nodes.items c.loop-frame.budget c.advance.new.budget
-    c.in-Call.name c.in-Call.arg c.advance.new.self c.ended.result c.loop-frame.invariant.under c.in_ok-name.ensures.budget
+    c.in-Call.name c.in-Call.arg c.advance.new.self c.failed.result c.loop-frame.invariant.under c.in_ok-name.ensures.budget
     (subst (λ (s : Stop). Advances c.loop-frame.frame.machine c.loop-frame.budget s c.advance.new.budget c.advance.new.self) c.in-Call.is c.in_ok-name.ensures.stops)
-    (sym c.program.ensures ∙ ap option_copied c.in_default.is) c.ended.ensures.outcome c.ended.ensures.nodes
+    (sym c.program.ensures ∙ ap option_copied c.in_default.is) c.failed.ensures.outcome c.failed.ensures.nodes
 
 pub loop-frame-preserved-in-Call : goal.loop-frame-preserved-in-Call
 loop-frame-preserved-in-Call g c =
@@ -68,10 +68,10 @@ returns-in_default-name-clause-run g c =
     let e = c.in_default-pop.ensures in
     let u = moved (g.B.Library.programs c.args.lib.now) c.args.budget.now _ c.loop-frame.frame (reverse c.loop-frame.callers.items) [] c.loop-frame.nodes.items c.loop-frame.nodes.items c.loop-frame.budget (nothing c.loop-frame.callers.items c.pop.new.self.items (vec_len c.loop-frame.callers) e.cases.0 e.items e.rest) refl c.loop-frame.invariant.under in
     finished_alone (g.B.Library.programs c.args.lib.now) c.args.budget.now _ c.args.name c.args.arg c.loop-frame.frame c.loop-frame.nodes.items c.loop-frame.budget c.advance.new.budget (c.loop-frame.frame.given - c.advance.new.budget)
-    c.in-Done.value c.advance.new.self c.ended-in_default-name.result (sym c.loop-frame.invariant.name ∙ c.in_default-name.is) u
+    c.in-Done.value c.advance.new.self c.ended.result (sym c.loop-frame.invariant.name ∙ c.in_default-name.is) u
     (subst (λ (s : Stop). Advances c.loop-frame.frame.machine c.loop-frame.budget s c.advance.new.budget c.advance.new.self) c.in-Done.is c.in_ok-name.ensures.stops)
     (given_back _ _ _ _ _ _ c.loop-frame.budget c.advance.new.budget u c.in_ok-name.ensures.budget)
-    c.ended-in_default-name.ensures.outcome c.ended-in_default-name.ensures.nodes
+    c.ended.ensures.outcome c.ended.ensures.nodes
 
 pub returns-in_default-pop-clause-run : goal.returns-in_default-pop-clause-run
 returns-in_default-pop-clause-run g c =
@@ -120,9 +120,9 @@ loop-frame-preserved g c =
 pub returns-in-Fault-clause-run : goal.returns-in-Fault-clause-run
 returns-in-Fault-clause-run g c =
     faulted (g.B.Library.programs c.args.lib.now) c.args.budget.now _ c.args.name c.args.arg c.loop-frame.frame (reverse c.loop-frame.callers.items) c.loop-frame.nodes.items c.loop-frame.budget c.advance.new.budget
-    c.in-Fault.kind c.advance.new.self c.ended-in-Fault.result c.loop-frame.invariant.under c.in_ok-name.ensures.budget
+    c.in-Fault.kind c.advance.new.self c.failed-in-Fault.result c.loop-frame.invariant.under c.in_ok-name.ensures.budget
     (subst (λ (s : Stop). Advances c.loop-frame.frame.machine c.loop-frame.budget s c.advance.new.budget c.advance.new.self) c.in-Fault.is c.in_ok-name.ensures.stops)
-    c.ended-in-Fault.ensures.outcome c.ended-in-Fault.ensures.nodes
+    c.failed-in-Fault.ensures.outcome c.failed-in-Fault.ensures.nodes
 
 pub returns-in-Spent-clause-run : goal.returns-in-Spent-clause-run
 returns-in-Spent-clause-run g c =

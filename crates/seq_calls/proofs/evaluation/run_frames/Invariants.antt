@@ -1,4 +1,4 @@
-use Rattle.std.proofs.Common.{◌≡◌, ◌+◌, ◌*◌, ◌≤◌, ℕ, length}
+use Rattle.std.proofs.Common.{◌≡◌, ◌+◌, ◌*◌, ◌≤◌, length}
 use Rattle.std.specs.Prelude.{reverse}
 use Rattle.loda_semantics.specs.Exec.{run_text}
 use Rattle.seq_calls.proofs.Under.{IsUnder}
