@@ -132,6 +132,21 @@ fn run_name<B: Library>(
     }
 }
 
+/// `evaluate` where nobody counts the steps.
+pub fn evaluate_alone<B: Library>(
+    alloc: Global,
+    lib: &B,
+    name: u32,
+    arg: Num,
+    limit: u64,
+) -> Result<Run, AllocError>
+    ensures outcome { IfOk result (λ run. run.outcome ≡ told (run_name (B.programs lib.now) name arg limit).0) }
+    ensures nodes { IfOk result (λ run. run.nodes ≡ nodes_of name arg (run_name (B.programs lib.now) name arg limit)) }
+{
+    let mut left = limit;
+    run_name(alloc, lib, name, arg, &mut left)
+}
+
 /// Runs a program that has no name at an argument, with at most `limit` steps, those of its calls included.
 ///
 /// The outcome and the exact steps are those of the language, its calls being those of the library's programs. The count
@@ -153,19 +168,4 @@ pub fn evaluate_text<B: Library, L: Ledger>(
     steps.tick(limit - left);
     let outcome = ran?.outcome;
     Ok(outcome)
-}
-
-/// The same where nobody counts the steps.
-pub fn evaluate_alone<B: Library>(
-    alloc: Global,
-    lib: &B,
-    name: u32,
-    arg: Num,
-    limit: u64,
-) -> Result<Run, AllocError>
-    ensures outcome { IfOk result (λ run. run.outcome ≡ told (run_name (B.programs lib.now) name arg limit).0) }
-    ensures nodes { IfOk result (λ run. run.nodes ≡ nodes_of name arg (run_name (B.programs lib.now) name arg limit)) }
-{
-    let mut left = limit;
-    run_name(alloc, lib, name, arg, &mut left)
 }
