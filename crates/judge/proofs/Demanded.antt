@@ -56,7 +56,7 @@ module _ (s : Store) (terms : Terms) (limit : ℕ) (sound : Sound s terms limit)
       let g = gives_value (outcome (programs_of s) q (pos i) limit) term.0 (each.4 i term.0 lt term.1) in
       run_of (programs_of s) limit q (pos i) term.0 g.0 g.1
 
-  with_ample : (q : ℕ) (x v : ℤ) (used : ℕ) (c : Calls) → run_name (programs_of s) q x limit ≡ (value v used, c) → run_name (programs_of s) q x ample ≡ (value v used, c)
+  pub with_ample : (q : ℕ) (x v : ℤ) (used : ℕ) (c : Calls) → run_name (programs_of s) q x limit ≡ (value v used, c) → run_name (programs_of s) q x ample ≡ (value v used, c)
   with_ample q x v used c h =
       more_deep (programs_of s) (ample - limit) (suc limit) (suc ample) (programs_of s q) x limit ample v used c (omega (arith, fits)) (omega arith) h
 

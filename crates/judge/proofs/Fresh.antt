@@ -59,7 +59,7 @@ judged_new s terms limit q p row checked h new = (
   λ there gainless. unpublished s q new there,
 )
 
-within_ample : (limit : ℕ) → limit ≤ 10000000 → limit ≤ ample
+pub within_ample : (limit : ℕ) → limit ≤ 10000000 → limit ≤ ample
 unfolding ample
 within_ample limit h = omega arith
 

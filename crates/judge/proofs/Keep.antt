@@ -83,7 +83,7 @@ has_program s q None x n d v used c there h = absurd (let z : fault Missing 0 �
 has_program s q (Some e) x n d v used c there h = (e, there)
 
 -- the checked count doesn't fall
-grows : (s : Store) (terms : Terms) (limit q : ℕ) (row : List ℤ) (checked : ℕ) (lib : Library) → Sound s terms limit → terms q ≡ Some row → Checks lib row q limit (checked_at s q) checked → checked_at s q ≤ checked
+pub grows : (s : Store) (terms : Terms) (limit q : ℕ) (row : List ℤ) (checked : ℕ) (lib : Library) → Sound s terms limit → terms q ≡ Some row → Checks lib row q limit (checked_at s q) checked → checked_at s q ≤ checked
 grows s terms limit q row checked lib sound listed (inl all) = by_entry (published_at s q) refl
   where
     same_row : (r : List ℤ) → terms q ≡ Some r → length r ≡ length row

@@ -9,3 +9,8 @@ pub mod OneReason
 pub mod Rows
 pub mod Misses
 pub mod Fresh
+pub mod Least
+pub mod Frames
+pub mod Stages
+pub mod Replaced
+pub mod Sides

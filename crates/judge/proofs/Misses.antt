@@ -22,7 +22,7 @@ use Rattle.judge.proofs.Values.{decide, same_int-is, same_int-true, place_within
 
 -- ---- what was got
 
-got_same : (o : Outcome) → got_told (told o) ≡ got_of o
+pub got_same : (o : Outcome) → got_told (told o) ≡ got_of o
 got_same (value v n) = refl
 got_same (fault kind.Overflow n) = refl
 got_same (fault kind.DivideByZero n) = refl
@@ -38,7 +38,7 @@ given_if (fault kind.BadCell n) t e = absurd (let f : got.BadCell ≡ got.Value 
 given_if (fault kind.Missing n) t e = absurd (let f : got.Missing ≡ got.Value t = e in cc)
 given_if (out n) t e = absurd (let f : got.OutOfSteps ≡ got.Value t = e in cc)
 
-false_unless : (b : Bool) → (IsTrue b → ⊥) → IsFalse b
+pub false_unless : (b : Bool) → (IsTrue b → ⊥) → IsFalse b
 false_unless true h = absurd (h refl)
 false_unless false h = refl
 

@@ -4,3 +4,5 @@ pub mod Sound
 pub mod Judged
 pub mod Kept
 pub mod One
+pub mod Changes
+pub mod Replaced

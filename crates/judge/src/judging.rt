@@ -2,28 +2,19 @@
 
 ghost use Rattle.std.specs.Prelude.{◌≡◌, ◌≤◌, IfOk};
 ghost use Rattle.oeis_terms.specs.Table.{row_of, IsBounded, IsTable};
-ghost use Rattle.program_store.specs.Store.{checked_at};
 ghost use Rattle.judge.specs.Sound.{Sound};
 ghost use Rattle.judge.specs.Judged.{IsJudged};
 ghost use Rattle.judge.specs.Kept.{IsKept};
 ghost use Rattle.judge.specs.One.{HasOneAnswer};
 
 use crate::answer::Answer;
+use crate::demanding::checked_count;
 use crate::passing::{NewCount, new_count};
+use crate::replacing::replacement_answer;
 use call_graph::first_through;
 use oeis_terms::TermTable;
 use program_store::{Overlay, Proposal, View};
 use std::alloc::{AllocError, Global};
-
-// At how many arguments the program of a name is checked: none where it is not published.
-fn old_count<V: View>(view: &V, name: u32) -> u32
-    ensures { result ≡ checked_at (V.store view.now) name }
-{
-    match view.published(name) {
-        Some(published) => published.checked,
-        None => 0,
-    }
-}
 
 /// What is answered to a proposal, in a sound store: the first that holds. No other answer holds, and where it is
 /// acceptance, the store with the program in it is sound and takes nothing from anybody.
@@ -71,13 +62,14 @@ fn first_answer<V: View>(
         name,
         program: &proposal.program,
     };
-    let old = old_count(view, name);
+    let old = checked_count(view, name);
     match new_count(alloc, &after, row, name, limit, old)? {
         NewCount::Wrong { index, got } => Ok(Answer::WrongTerm { index, got }),
         NewCount::Checked(checked) => match view.published(name) {
             None => Ok(Answer::Accepted { checked }),
-            // A proposal for a published name is not judged yet.
-            Some(_) => Err(AllocError),
+            Some(published) => {
+                replacement_answer(alloc, view, proposal, limit, published, checked)
+            }
         },
     }
 }

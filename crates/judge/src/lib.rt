@@ -2,9 +2,12 @@
 #![tactic(auto)]
 
 mod answer;
+mod comparing;
+mod demanding;
 mod judging;
 mod opening;
 mod passing;
+mod replacing;
 
 pub use answer::{Answer, Got, Unsound};
 pub use judging::judge;

@@ -1,0 +1,104 @@
+-- What a replacement changes for those who rely on a program.
+use Rattle.std.specs.Prelude.{ℕ, ◌+◌, ◌<◌, ◌≤◌, ◌≡◌, ◌⊎◌, Bool, true, false, ℤ, pos, ◌<ℤ◌, ◌≤ℤ◌, List, [], ◌∷◌}
+use Rattle.std.specs.declared.option.Option.{Option}
+use Rattle.std.specs.declared.option.Option.TheVariants.{Some, None}
+use Rattle.loda_syntax.specs.Programs.{Text}
+use Rattle.program_store.specs.Store.{Store, programs_of, checked_at}
+use Rattle.seq_calls.specs.declared.outcomes.Outcome.{Outcome as Told}
+use Rattle.seq_calls.specs.declared.outcomes.Outcome.TheVariants as told_as
+use Rattle.seq_calls.specs.declared.outcomes.NodeRun.{NodeRun}
+use Rattle.seq_calls.specs.Frames.{told}
+use Rattle.seq_calls.specs.Demand.{Demands}
+use Rattle.judge.specs.declared.comparing.BothRuns.{BothRuns}
+use Rattle.judge.specs.declared.comparing.CheckedRun.{CheckedRun}
+use Rattle.judge.specs.declared.comparing.Changed.{Changed}
+use Rattle.judge.specs.declared.comparing.Changes.{Changes}
+use Rattle.judge.specs.Passed.{Terms, outcome}
+use Rattle.judge.specs.Sound.{Sound}
+use Rattle.judge.specs.Judged.{after}
+
+-- ---- one argument
+
+-- the runs of q at x, in the store and with the program p in its place
+abbrev pub runs_at : Store → ℕ → ℕ → Text → ℤ → BothRuns
+runs_at s limit q p x = record { with_old = told (outcome (programs_of s) q x limit); with_new = told (outcome (after s q p) q x limit) }
+
+-- two facts about values and steps, where both outcomes are values
+abbrev pub BothValues : (ℤ → ℕ → ℤ → ℕ → Type 0) → Told → Told → Type 0
+BothValues P (told_as.Value v n) (told_as.Value w m) = P v n w m
+BothValues P a b = ⊥
+
+-- both runs have one value
+abbrev pub SameValue : BothRuns → Type 0
+SameValue runs = BothValues (λ v n w m. v ≡ w) runs.with_old runs.with_new
+
+-- the value is another one, or none
+abbrev pub OtherValue : BothRuns → Type 0
+OtherValue runs = SameValue runs → ⊥
+
+-- both runs have values, and the new one takes more steps
+abbrev pub MoreSteps : BothRuns → Type 0
+MoreSteps runs = BothValues (λ v n w m. n < m) runs.with_old runs.with_new
+
+-- both runs have values, with as many steps
+abbrev pub SameSteps : BothRuns → Type 0
+SameSteps runs = BothValues (λ v n w m. n ≡ m) runs.with_old runs.with_new
+
+-- ---- who relies on it
+
+-- The checked run demands x of q, or is itself the run of q at x.
+abbrev pub Relies : Store → ℕ → CheckedRun → ℤ → Type 0
+Relies s q r x = Demands s r.name r.index q x ⊎ ((r.name ≡ q) × (r.index < checked_at s q) × (x ≡ pos r.index))
+
+-- checked runs in order, by names and then by indices
+abbrev pub Before : CheckedRun → CheckedRun → Type 0
+Before a b = (a.name < b.name) ⊎ ((a.name ≡ b.name) × (a.index < b.index))
+
+abbrev pub AtOrBefore : CheckedRun → CheckedRun → Type 0
+AtOrBefore a b = (a.name < b.name) ⊎ ((a.name ≡ b.name) × (a.index ≤ b.index))
+
+-- a checked run before this one relies on x
+abbrev pub ReliesBefore : Store → ℕ → CheckedRun → CheckedRun → ℤ → Type 0
+ReliesBefore s q by r x = Relies s q r x × Before r by
+
+-- the run of q at x is among these
+abbrev pub IsAmong : ℕ → ℤ → List NodeRun → Type 0
+IsAmong q x [] = ⊥
+IsAmong q x (node ∷ nodes) = ((node.pair.name ≡ q) × (node.pair.arg ≡ x)) ⊎ IsAmong q x nodes
+
+-- a checked run before this one relies on x, or these frames of this one do
+abbrev pub ReliesUpTo : Store → ℕ → CheckedRun → List NodeRun → CheckedRun → ℤ → Type 0
+ReliesUpTo s q by nodes r x = ReliesBefore s q by r x ⊎ ((r ≡ by) × IsAmong q x nodes)
+
+-- ---- the least argument that changes
+
+-- The least x with a change among those that are relied on, with the first run that relies on it.
+pub record IsLeastChange (Kind : BothRuns → Type 0) (runs : ℤ → BothRuns) (Relied : CheckedRun → ℤ → Type 0) (c : Changed) : Type 0 where
+  pub relied : Relied c.by c.at
+  pub runs_are : c.runs ≡ runs c.at
+  pub changes : Kind (runs c.at)
+  pub least : (r : CheckedRun) (x : ℤ) → Relied r x → Kind (runs x) → (c.at <ℤ x) ⊎ ((c.at ≡ x) × AtOrBefore c.by r)
+
+-- nothing changes so, or this is the least change
+abbrev pub IsLeast : (BothRuns → Type 0) → (ℤ → BothRuns) → (CheckedRun → ℤ → Type 0) → Option Changed → Type 0
+IsLeast Kind runs Relied None = (r : CheckedRun) (x : ℤ) → Relied r x → Kind (runs x) → ⊥
+IsLeast Kind runs Relied (Some c) = IsLeastChange Kind runs Relied c
+
+-- the least change of each kind
+pub record AreChanges (runs : ℤ → BothRuns) (Relied : CheckedRun → ℤ → Type 0) (c : Changes) : Type 0 where
+  pub other_value : IsLeast OtherValue runs Relied c.other_value
+  pub more_steps : IsLeast MoreSteps runs Relied c.more_steps
+
+-- What is kept of a known one and one that was met: the lesser, and the known one where they are at one argument.
+abbrev pub IsKept : Bool → Option Changed → Changed → Option Changed → Type 0
+IsKept false known met next = next ≡ known
+IsKept true None met next = next ≡ Some met
+IsKept true (Some c) met next = ((c.at ≤ℤ met.at) × (next ≡ Some c)) ⊎ ((met.at <ℤ c.at) × (next ≡ Some met))
+
+-- the same, by whether what was met is a change
+abbrev pub IsNext : Type 0 → Option Changed → Changed → Option Changed → Type 0
+IsNext IsChange known met next = (IsChange × IsKept true known met next) ⊎ ((IsChange → ⊥) × IsKept false known met next)
+
+-- some terms for which the store is sound
+abbrev pub IsSoundStore : Store → ℕ → Type 0
+IsSoundStore s limit = (terms : Terms) × Sound s terms limit

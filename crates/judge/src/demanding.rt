@@ -1,0 +1,111 @@
+//! What changes for the checked runs of published programs.
+
+ghost use Rattle.std.specs.Prelude.{◌≡◌, ◌+◌, ◌<◌, ◌≤◌, IfOk};
+ghost use Rattle.program_store.specs.Store.{IsStore, checked_at};
+ghost use Rattle.judge.specs.Changes.{runs_at, Relies, ReliesBefore, ReliesUpTo, AreChanges, IsSoundStore};
+
+use crate::comparing::{Changed, Changes, CheckedRun, both_runs};
+use crate::passing::number_of;
+use program_store::{Proposal, View};
+use seq_calls::{NodeRun, evaluate_alone};
+use std::alloc::{AllocError, Global};
+
+// The changes after the runs of the proposed name among the frames of a checked run.
+fn after_frames<V: View>(
+    alloc: Global,
+    view: &V,
+    proposal: &Proposal,
+    limit: u64,
+    by: CheckedRun,
+    frames: &[NodeRun],
+    mut changes: Changes,
+) -> Result<Changes, AllocError>
+    requires { AreChanges (runs_at (V.store view.now) limit proposal.now.name proposal.now.program) (ReliesBefore (V.store view.now) proposal.now.name by) changes }
+    ensures { IfOk result (AreChanges (runs_at (V.store view.now) limit proposal.now.name proposal.now.program) (ReliesUpTo (V.store view.now) proposal.now.name by frames.now)) }
+{
+    for frame in frames {
+        if frame.pair.name != proposal.name {
+            continue;
+        }
+        let at = frame.pair.arg;
+        let runs = both_runs(alloc, view, proposal, limit, at)?;
+        changes = changes.with(&Changed { at, by, runs });
+    }
+    Ok(changes)
+}
+
+// The changes after one more checked run.
+fn after_run<V: View>(
+    alloc: Global,
+    view: &V,
+    proposal: &Proposal,
+    limit: u64,
+    by: CheckedRun,
+    changes: Changes,
+) -> Result<Changes, AllocError>
+    requires limit { limit ≤ 10000000 }
+    requires sound { IsSoundStore (V.store view.now) limit }
+    requires checked { by.index < checked_at (V.store view.now) by.name }
+    requires changes { AreChanges (runs_at (V.store view.now) limit proposal.now.name proposal.now.program) (ReliesBefore (V.store view.now) proposal.now.name by) changes }
+    ensures { IfOk result (AreChanges (runs_at (V.store view.now) limit proposal.now.name proposal.now.program) (ReliesBefore (V.store view.now) proposal.now.name (record { name = by.name; index = by.index + 1 }))) }
+{
+    let run = evaluate_alone(alloc, view, by.name, number_of(by.index), limit)?;
+    let frames = run.nodes.list();
+    after_frames(alloc, view, proposal, limit, by, frames, changes)
+}
+
+// At how many arguments the program of a name is checked: none where it is not published.
+pub fn checked_count<V: View>(view: &V, name: u32) -> u32
+    ensures { result ≡ checked_at (V.store view.now) name }
+{
+    match view.published(name) {
+        Some(published) => published.checked,
+        None => 0,
+    }
+}
+
+// The changes after the checked runs of one more name.
+fn after_name<V: View>(
+    alloc: Global,
+    view: &V,
+    proposal: &Proposal,
+    limit: u64,
+    name: u32,
+    mut changes: Changes,
+) -> Result<Changes, AllocError>
+    requires limit { limit ≤ 10000000 }
+    requires sound { IsSoundStore (V.store view.now) limit }
+    requires changes { AreChanges (runs_at (V.store view.now) limit proposal.now.name proposal.now.program) (ReliesBefore (V.store view.now) proposal.now.name (record { name = name; index = 0 })) changes }
+    ensures { IfOk result (AreChanges (runs_at (V.store view.now) limit proposal.now.name proposal.now.program) (ReliesBefore (V.store view.now) proposal.now.name (record { name = name + 1; index = 0 }))) }
+{
+    let count = checked_count(view, name);
+    for index in 0..count {
+        let by = CheckedRun { name, index };
+        changes = after_run(alloc, view, proposal, limit, by, changes)?;
+    }
+    Ok(changes)
+}
+
+/// The least changes at the arguments that are relied on, with the first checked runs that rely on them.
+pub fn changes_of<V: View>(
+    alloc: Global,
+    view: &V,
+    proposal: &Proposal,
+    limit: u64,
+) -> Result<Changes, AllocError>
+    requires limit { limit ≤ 10000000 }
+    requires sound { IsSoundStore (V.store view.now) limit }
+    requires store { IsStore (V.store view.now) }
+    ensures { IfOk result (AreChanges (runs_at (V.store view.now) limit proposal.now.name proposal.now.program) (Relies (V.store view.now) proposal.now.name)) }
+{
+    let mut changes = Changes {
+        other_value: None,
+        more_steps: None,
+    };
+    let mut last = 0;
+    while let Some(name) = view.next_name(last) {
+        changes = after_name(alloc, view, proposal, limit, name, changes)?;
+        last = name;
+    }
+    Ok(changes)
+}
