@@ -1,14 +1,13 @@
 -- In a sound store each argument that is relied on has a value, and what its run calls is demanded.
-use Rattle.std.proofs.Common.{ℕ, zero, suc, ◌+◌, ◌-◌, ◌<◌, ◌≤◌, ◌≡◌, refl, sym, ap, subst, ◌∙◌, arith, ℤ, pos, inl, inr, List, length}
-use Rattle.std.specs.Prelude.{◌⊎◌, slice_get}
+use Rattle.std.proofs.Common.{ℕ, suc, ◌-◌, ◌<◌, ◌≤◌, ◌≡◌, refl, sym, ap, subst, ◌∙◌, arith, ℤ, pos, inl, inr}
 use Rattle.std.specs.declared.option.Option.{Option}
 use Rattle.std.specs.declared.option.Option.TheVariants.{Some, None}
-use Rattle.loda_semantics.specs.Exec.{Outcome, value, fault, out, Calls, none, call, Library, run_name, run_deep}
+use Rattle.loda_semantics.specs.Exec.{Outcome, value, Calls, none, call, Library, run_name}
 use Rattle.loda_semantics.proofs.Laws.{more_deep}
 use Rattle.program_store.specs.declared.published.Published.{Published}
-use Rattle.program_store.specs.Store.{Store, published_at, programs_of, checked_at, checked_in}
-use Rattle.seq_calls.specs.Demand.{InTrace, ample, Demands, InDem, IsReliedOn}
-use Rattle.judge.specs.Passed.{Terms, outcome, Gives}
+use Rattle.program_store.specs.Store.{Store, published_at, programs_of, checked_in}
+use Rattle.seq_calls.specs.Demand.{InTrace, ample, InDem, IsReliedOn}
+use Rattle.judge.specs.Passed.{Terms, outcome}
 use Rattle.judge.specs.Sound.{Sound}
 use Rattle.judge.proofs.Records.{AreAnswered, answered_name}
 use Rattle.judge.proofs.Values.{gives_value, term_at}

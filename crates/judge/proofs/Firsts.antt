@@ -1,9 +1,8 @@
 -- The least with a property, and the first with it, are one.
-use Rattle.std.proofs.Common.{ℕ, zero, suc, ◌+◌, ◌<◌, ◌≤◌, ◌≡◌, refl, sym, ap, subst, ◌∙◌, arith, ℤ, List, [], ◌∷◌, ◌++◌}
-use Rattle.std.specs.Prelude.{◌<ℤ◌, ◌⊎◌, Contains}
+use Rattle.std.proofs.Common.{ℕ, suc, ◌≡◌, refl, sym, subst, ◌∙◌, arith, ℤ, List, [], ◌∷◌, ◌++◌}
+use Rattle.std.specs.Prelude.{◌<ℤ◌, Contains}
 use Rattle.judge.specs.Judged.{LeastWith}
 use Rattle.program_store.specs.Graph.{FirstWith}
-use Rattle.std.specs.Prelude.{length}
 use Rattle.std.proofs.lemmas.Int.{by_lt_z, ints}
 
 pub int_trichotomy : (x y : ℤ) → (x <ℤ y → ⊥) → (y <ℤ x → ⊥) → x ≡ y

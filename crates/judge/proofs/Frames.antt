@@ -1,15 +1,14 @@
 -- The frames of a checked run hold what it relies on, and nothing else.
-use Rattle.std.proofs.Common.{ℕ, zero, suc, ◌+◌, ◌-◌, ◌<◌, ◌≤◌, ◌≡◌, refl, sym, ap, subst, ◌∙◌, arith, ℤ, pos, inl, inr, List, [], ◌∷◌, ◌++◌, length, take, get_or}
+use Rattle.std.proofs.Common.{ℕ, ◌+◌, ◌<◌, ◌≤◌, ◌≡◌, refl, sym, ap, subst, ◌∙◌, ℤ, pos, inl, inr, List, [], ◌∷◌, ◌++◌, length, take, get_or}
 use Rattle.std.specs.Prelude.{◌⊎◌}
 use Rattle.std.proofs.lemmas.List.{take_more}
-use Rattle.std.specs.declared.option.Option.{Option}
-use Rattle.std.specs.declared.option.Option.TheVariants.{Some, None}
+use Rattle.std.specs.declared.option.Option.TheVariants.{Some}
 use Rattle.loda_semantics.specs.Exec.{Outcome, value, fault, out, Calls, none, call, Library, run_name}
 use Rattle.program_store.specs.declared.published.Published.{Published}
-use Rattle.program_store.specs.Store.{Store, published_at, programs_of, checked_at, checked_in}
+use Rattle.program_store.specs.Store.{Store, published_at, programs_of, checked_at}
 use Rattle.seq_calls.specs.declared.outcomes.NodeRun.{NodeRun}
 use Rattle.seq_calls.specs.Frames.{nodes_in, node_of, nodes_of}
-use Rattle.seq_calls.specs.Demand.{InTrace, ample, Demands}
+use Rattle.seq_calls.specs.Demand.{InTrace, ample}
 use Rattle.judge.specs.declared.comparing.CheckedRun.{CheckedRun}
 use Rattle.judge.specs.Passed.{Terms}
 use Rattle.judge.specs.Sound.{Sound}

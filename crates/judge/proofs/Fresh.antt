@@ -1,5 +1,5 @@
 -- The answer to a proposal for a name that isn't published, and what acceptance keeps.
-use Rattle.std.proofs.Common.{ℕ, ◌<◌, ◌≤◌, ◌≡◌, sym, ap, subst, ◌∙◌, arith, ℤ, pos, List, max}
+use Rattle.std.proofs.Common.{ℕ, ◌≤◌, ◌≡◌, sym, subst, ◌∙◌, arith, ℤ, List}
 use Rattle.std.specs.Prelude.{Contains, IfSome, IfNone}
 use Rattle.std.specs.declared.option.Option.{Option}
 use Rattle.std.specs.declared.option.Option.TheVariants.{Some, None}
@@ -17,7 +17,7 @@ use Rattle.judge.specs.declared.passing.NewCount.TheVariants.{Checked, Wrong}
 use Rattle.judge.specs.Passed.{Terms}
 use Rattle.judge.specs.Misses.{IsNewCount}
 use Rattle.judge.specs.Sound.{Sound}
-use Rattle.judge.specs.Judged.{after, IsPublished, Checks, Enters, Passes, IsJudged}
+use Rattle.judge.specs.Judged.{after, IsPublished, Enters, Passes, IsJudged}
 use Rattle.judge.specs.Kept.{IsKept}
 use Rattle.judge.proofs.Keep.{keep}
 use Rattle.judge.proofs.Rows.{eight_terms}

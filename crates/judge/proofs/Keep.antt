@@ -1,28 +1,27 @@
 -- The keep law: an accepted proposal takes nothing from anybody, and the next store is sound.
-use Rattle.std.proofs.Common.{ℕ, zero, suc, ◌+◌, ◌-◌, ◌<◌, ◌≤◌, ◌≡◌, ◌≢◌, refl, sym, ap, subst, ◌∙◌, arith, ℤ, pos, inl, inr, List, length, Bool, true, false, eqb, cond, max}
-use Rattle.std.specs.Prelude.{◌⊎◌, slice_get, IsTrue}
+use Rattle.std.proofs.Common.{ℕ, suc, ◌+◌, ◌-◌, ◌<◌, ◌≤◌, ◌≡◌, ◌≢◌, refl, sym, ap, subst, ◌∙◌, arith, ℤ, pos, inl, inr, List, length, true, false, eqb, cond}
+use Rattle.std.specs.Prelude.{◌⊎◌, slice_get}
 use Rattle.std.specs.declared.option.Option.{Option}
 use Rattle.std.specs.declared.option.Option.TheVariants.{Some, None}
 use Rattle.std.specs.Option.{option_map}
 use Rattle.std.specs.Ordering.{nat_cmp, eq_by_cmp}
 use Rattle.std.specs.Cmp.{nat_cmp_total}
-use Rattle.std.specs.FinMap.{get, insert, get-insert}
+use Rattle.std.specs.FinMap.{get-insert}
 use Rattle.loda_syntax.specs.Programs.{Text}
 use Rattle.loda_semantics.specs.declared.kinds.FaultKind.TheVariants.{Missing}
-use Rattle.loda_semantics.specs.Exec.{Outcome, value, fault, out, Calls, none, call, Library, run_name, run_deep}
+use Rattle.loda_semantics.specs.Exec.{Outcome, value, fault, Calls, none, call, Library, run_name, run_deep}
 use Rattle.loda_semantics.proofs.Laws.{more_deep, fewer_deep, used_within}
 use Rattle.loda_semantics.proofs.Keeps.{AllTrace, Cheaper, keeps_deep}
 use Rattle.program_store.specs.declared.published.Published.{Published}
 use Rattle.program_store.specs.Store.{Store, published_at, programs_of, with_program, checked_at, checked_in, put_in}
 use Rattle.program_store.specs.Graph.{NoCycle}
 use Rattle.seq_calls.specs.Demand.{InTrace, ample, InDem, IsReliedOn}
-use Rattle.judge.specs.declared.answer.Answer.TheVariants.{Accepted}
-use Rattle.judge.specs.Passed.{Terms, outcome, steps_in, gives, Gives, PassesBelow}
+use Rattle.judge.specs.Passed.{Terms, outcome, steps_in, Gives, PassesBelow}
 use Rattle.judge.specs.Sound.{Sound, IsEntrySound}
-use Rattle.judge.specs.Judged.{after, IsPublished, Checks, Breaks, CostsMore, Enters, Passes, Unbroken, NoDearer, IsJudged}
+use Rattle.judge.specs.Judged.{after, IsPublished, Checks, Passes, NoDearer}
 use Rattle.judge.specs.Kept.{KeepsValue, LosesNothing, HasEight, Keeps}
 use Rattle.judge.proofs.Values.{decide, gives_value, gives_this, gives_same, true_unless, agree_gives, term_at, place_within}
-use Rattle.judge.proofs.Demanded.{Runs, run_of, is_checked, checked_runs, checked_demands, demanded_runs, relied_runs}
+use Rattle.judge.proofs.Demanded.{Runs, run_of, is_checked, demanded_runs, relied_runs}
 use Rattle.judge.proofs.NewCycles.{no_new_cycle}
 
 -- ---- runs of one library with other steps

@@ -1,6 +1,6 @@
 -- The least argument that changes, of those that were met so far.
-use Rattle.std.proofs.Common.{ℕ, ◌+◌, ◌<◌, ◌≤◌, ◌≡◌, refl, sym, ap, subst, ◌∙◌, arith, ℤ, inl, inr, Bool, true, false}
-use Rattle.std.specs.Prelude.{◌⊎◌, ◌↔◌, ◌<ℤ◌, ◌≤ℤ◌, IsTrue}
+use Rattle.std.proofs.Common.{◌≡◌, refl, sym, subst, ◌∙◌, arith, ℤ, inl, inr, Bool, true, false}
+use Rattle.std.specs.Prelude.{◌⊎◌, ◌<ℤ◌, ◌≤ℤ◌, IsTrue}
 use Rattle.std.specs.declared.option.Option.{Option}
 use Rattle.std.specs.declared.option.Option.TheVariants.{Some, None}
 use Rattle.std.proofs.lemmas.Int.{by_lt_z, ints}

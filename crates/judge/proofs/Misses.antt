@@ -1,5 +1,5 @@
 -- What was got, and the first term that isn't given.
-use Rattle.std.proofs.Common.{ℕ, zero, suc, ◌+◌, ◌-◌, ◌<◌, ◌≤◌, ◌≡◌, ◌≢◌, refl, sym, ap, subst, ◌∙◌, arith, ℤ, pos, inl, inr, List, [], ◌∷◌, length, take, get_or, Bool, true, false}
+use Rattle.std.proofs.Common.{ℕ, zero, suc, ◌+◌, ◌<◌, ◌≤◌, ◌≡◌, refl, sym, ap, subst, ◌∙◌, arith, ℤ, pos, inl, inr, List, [], ◌∷◌, length, take, get_or, Bool, true, false}
 use Rattle.std.specs.Prelude.{◌⊎◌, slice_get, IsTrue, IsFalse, MatchOption, IfNone}
 use Rattle.std.proofs.lemmas.Option.{slice_get_read}
 use Rattle.std.specs.declared.option.Option.{Option}
@@ -14,11 +14,11 @@ use Rattle.seq_calls.specs.Frames.{told}
 use Rattle.judge.specs.declared.answer.Got.{Got}
 use Rattle.judge.specs.declared.answer.Got.TheVariants as got
 use Rattle.judge.specs.declared.answer.Unsound.{Unsound}
-use Rattle.judge.specs.declared.answer.Unsound.TheVariants.{Cycle, NoRow, Count, Unmet}
+use Rattle.judge.specs.declared.answer.Unsound.TheVariants.{NoRow, Count, Unmet}
 use Rattle.judge.specs.Passed.{Terms, outcome, got_of, same_int, gives, Gives, PassesBelow, FailsFirst, IsPassed}
 use Rattle.judge.specs.Misses.{got_told, IsFirstMiss, IsEntryFault}
 use Rattle.judge.specs.Sound.{IsEntrySound, SoundBelow, IsUnsound}
-use Rattle.judge.proofs.Values.{decide, same_int-is, same_int-true, place_within}
+use Rattle.judge.proofs.Values.{same_int-is, same_int-true, place_within}
 
 -- ---- what was got
 

@@ -1,11 +1,11 @@
 -- A program that calls nothing which reaches its name closes no cycle.
-use Rattle.std.proofs.Common.{ℕ, zero, suc, ◌+◌, ◌<◌, ◌≤◌, ◌≡◌, ◌≢◌, refl, sym, ap, subst, ◌∙◌, arith, inl, inr}
+use Rattle.std.proofs.Common.{ℕ, zero, suc, ◌≡◌, ◌≢◌, sym, subst, ◌∙◌, inl, inr}
 use Rattle.std.specs.Prelude.{◌⊎◌, Contains}
 use Rattle.std.specs.declared.option.Option.{Option}
-use Rattle.std.specs.declared.option.Option.TheVariants.{Some, None}
+use Rattle.std.specs.declared.option.Option.TheVariants.{Some}
 use Rattle.loda_syntax.specs.Programs.{Text}
 use Rattle.loda_semantics.specs.Exec.{Library}
-use Rattle.program_store.specs.Graph.{calls_of, Path, Reaches, OnCycle, NoCycle}
+use Rattle.program_store.specs.Graph.{calls_of, Path, Reaches, NoCycle}
 use Rattle.judge.proofs.Values.{decide}
 
 module _ (lib1 lib2 : Library) (q : ℕ) (p : Text) (others : (r : ℕ) → r ≢ q → lib2 r ≡ lib1 r) (here : lib2 q ≡ Some p) where

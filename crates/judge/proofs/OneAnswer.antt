@@ -1,19 +1,17 @@
 -- Two answers to one proposal are the same: the tests are made in an order, and an answer tells which were passed.
-use Rattle.std.proofs.Common.{ℕ, zero, suc, ◌+◌, ◌<◌, ◌≤◌, ◌≡◌, refl, sym, ap, subst, ◌∙◌, arith, ℤ, pos, inl, inr, List, [], ◌∷◌, ◌++◌, length, max, Bool, true, false}
-use Rattle.std.specs.Prelude.{◌⊎◌, slice_get, IsTrue, IsFalse, Contains}
-use Rattle.std.specs.declared.option.Option.{Option}
+use Rattle.std.proofs.Common.{ℕ, zero, suc, ◌<◌, ◌≤◌, ◌≡◌, refl, sym, ap, subst, ◌∙◌, arith, ℤ, pos, inl, inr, List, [], ◌∷◌, ◌++◌, length, max, Bool, true, false}
+use Rattle.std.specs.Prelude.{◌⊎◌, IsTrue, IsFalse, Contains}
 use Rattle.std.specs.declared.option.Option.TheVariants.{Some, None}
 use Rattle.loda_syntax.specs.Programs.{Text}
-use Rattle.loda_semantics.specs.Exec.{Outcome, value, fault, out, Library}
+use Rattle.loda_semantics.specs.Exec.{Outcome, Library}
 use Rattle.program_store.specs.Store.{Store, programs_of, checked_at}
-use Rattle.program_store.specs.Graph.{calls_of, Reaches, FirstWith}
-use Rattle.seq_calls.specs.Demand.{Demands}
+use Rattle.program_store.specs.Graph.{calls_of, Reaches}
 use Rattle.judge.specs.declared.answer.Got.{Got}
 use Rattle.judge.specs.declared.answer.Got.TheVariants as got
 use Rattle.judge.specs.declared.answer.Answer.{Answer}
 use Rattle.judge.specs.declared.answer.Answer.TheVariants.{Accepted, Unlisted, Cycle, WrongTerm, BrokenDependant, Costlier, NoGain}
 use Rattle.judge.specs.Passed.{Terms, outcome, got_of, steps_in, gives, Gives, PassesBelow, FailsFirst}
-use Rattle.judge.specs.Judged.{after, IsPublished, Checks, LeastWith, Breaks, CostsMore, LeastCaller, Gainless, Enters, Passes, Unbroken, NoDearer, IsJudged}
+use Rattle.judge.specs.Judged.{after, IsPublished, Checks, Breaks, CostsMore, LeastCaller, Gainless, Enters, Passes, Unbroken, NoDearer, IsJudged}
 use Rattle.judge.specs.One.{HasOneAnswer}
 use Rattle.judge.proofs.Values.{gives_value, gives_same, place_within}
 use Rattle.judge.proofs.Firsts.{first-same, least-same, contains-here}

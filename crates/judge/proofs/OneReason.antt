@@ -1,11 +1,10 @@
 -- A store that isn't sound has one reason.
-use Rattle.std.proofs.Common.{ℕ, zero, suc, ◌+◌, ◌<◌, ◌≤◌, ◌≡◌, refl, sym, ap, subst, ◌∙◌, arith, ℤ, pos, inl, inr, List, length}
+use Rattle.std.proofs.Common.{ℕ, ◌<◌, ◌≡◌, sym, ap, subst, ◌∙◌, arith, ℤ, pos, inl, inr, List, length}
 use Rattle.std.specs.Prelude.{◌⊎◌}
-use Rattle.std.specs.declared.option.Option.{Option}
 use Rattle.std.specs.declared.option.Option.TheVariants.{Some, None}
 use Rattle.program_store.specs.declared.published.Published.{Published}
 use Rattle.program_store.specs.Store.{Store, published_at, programs_of}
-use Rattle.program_store.specs.Graph.{NoCycle, OnCycle}
+use Rattle.program_store.specs.Graph.{NoCycle}
 use Rattle.judge.specs.declared.answer.Got.{Got}
 use Rattle.judge.specs.declared.answer.Unsound.{Unsound}
 use Rattle.judge.specs.declared.answer.Unsound.TheVariants.{Cycle, NoRow, Count, Unmet}

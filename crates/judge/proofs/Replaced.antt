@@ -1,33 +1,29 @@
 -- The answer to a proposal for a published name.
-use Rattle.std.proofs.Common.{ℕ, zero, suc, ◌+◌, ◌<◌, ◌≤◌, ◌≡◌, refl, sym, ap, subst, ◌∙◌, arith, ℤ, pos, inl, inr, List, length, Bool, true, false}
+use Rattle.std.proofs.Common.{ℕ, ◌<◌, ◌≤◌, ◌≡◌, refl, sym, ap, subst, ◌∙◌, arith, ℤ, pos, inl, inr, List, length, true, false}
 use Rattle.std.specs.Prelude.{◌⊎◌, ◌<ℤ◌, slice_get, IsTrue, IsFalse}
-use Rattle.std.specs.declared.option.Option.{Option}
-use Rattle.std.specs.declared.option.Option.TheVariants.{Some, None}
+use Rattle.std.specs.declared.option.Option.TheVariants.{Some}
 use Rattle.std.proofs.lemmas.Int.{ints}
 use Rattle.loda_syntax.specs.Programs.{Text, instrs}
-use Rattle.loda_semantics.specs.Exec.{Outcome, value, fault, out, Calls, Library, run_name}
+use Rattle.loda_semantics.specs.Exec.{Outcome, value, fault, out, Calls}
 use Rattle.program_store.specs.declared.published.Published.{Published}
 use Rattle.program_store.specs.Store.{Store, published_at, programs_of, checked_at, checked_in}
-use Rattle.seq_calls.specs.declared.outcomes.Outcome.{Outcome as Told}
 use Rattle.seq_calls.specs.declared.outcomes.Outcome.TheVariants as told_as
 use Rattle.seq_calls.specs.Frames.{told}
-use Rattle.seq_calls.specs.Demand.{ample, Demands, InDem, IsReliedOn}
-use Rattle.judge.specs.declared.answer.Got.{Got}
+use Rattle.seq_calls.specs.Demand.{Demands, IsReliedOn}
 use Rattle.judge.specs.declared.answer.Answer.{Answer}
-use Rattle.judge.specs.declared.answer.Answer.TheVariants.{Accepted, BrokenDependant, Costlier, NoGain}
+use Rattle.judge.specs.declared.answer.Answer.TheVariants.{Accepted, NoGain}
 use Rattle.judge.specs.declared.comparing.BothRuns.{BothRuns}
 use Rattle.judge.specs.declared.comparing.CheckedRun.{CheckedRun}
 use Rattle.judge.specs.declared.comparing.Changed.{Changed}
-use Rattle.judge.specs.declared.comparing.Changes.{Changes}
-use Rattle.judge.specs.Passed.{Terms, outcome, steps_in, got_of, Gives, gives, same_int, agree, PassesBelow}
+use Rattle.judge.specs.Passed.{Terms, outcome, steps_in, Gives, same_int, agree, PassesBelow}
 use Rattle.judge.specs.Misses.{got_told}
 use Rattle.judge.specs.Sound.{Sound}
-use Rattle.judge.specs.Judged.{after, IsPublished, Checks, Breaks, LeastWith, LeastCaller, CostsMore, Gainless, Passes, Unbroken, NoDearer, IsJudged}
-use Rattle.judge.specs.Changes.{runs_at, SameValue, OtherValue, MoreSteps, SameSteps, Relies, AtOrBefore, IsLeastChange, IsLeast, AreChanges, IsSoundStore}
-use Rattle.judge.specs.Replaced.{HasValue, IsBroken, IsCostlier, TakesSameSteps, BringsNothing, IsAnswer}
-use Rattle.judge.proofs.Values.{gives_value, gives_this, same_int-is, same_int-true, true_unless, term_at}
+use Rattle.judge.specs.Judged.{after, Checks, Breaks, CostsMore, Gainless, Passes, Unbroken, NoDearer, IsJudged}
+use Rattle.judge.specs.Changes.{runs_at, SameValue, OtherValue, MoreSteps, SameSteps, Relies, AtOrBefore, IsLeastChange, IsSoundStore}
+use Rattle.judge.specs.Replaced.{HasValue, IsBroken, IsCostlier, BringsNothing}
+use Rattle.judge.proofs.Values.{gives_value, same_int-is, same_int-true, true_unless, term_at}
 use Rattle.judge.proofs.Misses.{got_same, false_unless}
-use Rattle.judge.proofs.Demanded.{Runs, is_checked, relied_runs}
+use Rattle.judge.proofs.Demanded.{is_checked, relied_runs}
 use Rattle.judge.proofs.Keep.{grows}
 use Rattle.judge.proofs.OneAnswer.{same_row}
 use Rattle.judge.proofs.Fresh.{within_ample}

@@ -1,5 +1,5 @@
 -- What a table of terms says of each of its rows.
-use Rattle.std.proofs.Common.{ℕ, ◌≤◌, ◌≡◌, sym, ap, subst, ◌∙◌, ℤ, List, [], ◌∷◌, length, Bool, true, false, cond}
+use Rattle.std.proofs.Common.{ℕ, ◌≤◌, ◌≡◌, subst, ℤ, List, [], ◌∷◌, length, Bool, true, false, cond}
 use Rattle.std.specs.Prelude.{find, All, IfSome, ◌==◌}
 use Rattle.std.specs.declared.option.Option.{Option}
 use Rattle.std.specs.declared.option.Option.TheVariants.{Some, None}

@@ -10,7 +10,6 @@ use Rattle.seq_calls.specs.declared.outcomes.Outcome.{Outcome as Told}
 use Rattle.seq_calls.specs.declared.outcomes.NodeRun.{NodeRun}
 use Rattle.seq_calls.specs.Frames.{told, nodes_of}
 use Rattle.judge.specs.declared.comparing.BothRuns.{BothRuns}
-use Rattle.judge.specs.declared.comparing.Changes.{Changes}
 use Rattle.judge.specs.Passed.{outcome}
 use Rattle.judge.specs.Changes.{runs_at, SameSteps}
 use Rattle.judge.specs.Replaced.{TakesSameSteps, BringsNothing}
@@ -27,10 +26,10 @@ runs_are s lib same limit q p x a b old new =
     ∙ ap (λ (o : Told). sides (told (outcome (programs_of s) q x limit)) o) (new ∙ ap (λ (l : Library). told (outcome (with_program l q p) q x limit)) same)
 
 -- the frames of a checked run, whoever ran it
-pub nodes_are : (s : Store) (lib : Library) → lib ≡ programs_of s → (limit name index : ℕ) (x : ℤ) (nodes : List NodeRun) → x ≡ pos index → nodes ≡ nodes_of name x (run_name lib name x limit)
+pub nodes_are : (s : Store) (lib : Library) → lib ≡ programs_of s → (limit name index : ℕ) (x : ℤ) (all nodes : List NodeRun) → x ≡ pos index → nodes ≡ all → all ≡ nodes_of name x (run_name lib name x limit)
     → nodes ≡ nodes_of name (pos index) (run_name (programs_of s) name (pos index) limit)
-nodes_are s lib same limit name index x nodes is e =
-    e ∙ ap (λ (z : ℤ). nodes_of name z (run_name lib name z limit)) is ∙ ap (λ (l : Library). nodes_of name (pos index) (run_name l name (pos index) limit)) same
+nodes_are s lib same limit name index x all nodes is listed e =
+    listed ∙ e ∙ ap (λ (z : ℤ). nodes_of name z (run_name lib name z limit)) is ∙ ap (λ (l : Library). nodes_of name (pos index) (run_name l name (pos index) limit)) same
 
 pub if_ok : {A E : Type 0} (r : Result A E) (P Q : A → Type 0) → ((a : A) → P a → Q a) → IfOk r P → IfOk r Q
 if_ok (Ok c) P Q to h = to c h

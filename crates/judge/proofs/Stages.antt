@@ -1,20 +1,18 @@
 -- The checked runs in their order: what relies on an argument before one of them, and before the next.
-use Rattle.std.proofs.Common.{ℕ, zero, suc, ◌+◌, ◌<◌, ◌≤◌, ◌≡◌, ◌≢◌, refl, sym, ap, subst, ◌∙◌, arith, ℤ, pos, inl, inr, List, length, take, get_or}
+use Rattle.std.proofs.Common.{ℕ, ◌+◌, ◌<◌, ◌≤◌, ◌≡◌, refl, sym, ap, subst, ◌∙◌, arith, ℤ, pos, inl, inr, List, length, take, get_or}
 use Rattle.std.specs.Prelude.{◌⊎◌}
 use Rattle.std.proofs.lemmas.List.{take_all}
 use Rattle.std.specs.declared.option.Option.{Option}
 use Rattle.std.specs.declared.option.Option.TheVariants.{Some, None}
-use Rattle.loda_syntax.specs.Programs.{Text}
 use Rattle.loda_semantics.specs.Exec.{run_name}
 use Rattle.program_store.specs.declared.published.Published.{Published}
 use Rattle.program_store.specs.Store.{Store, IsStore, published_at, programs_of, checked_at, checked_in}
 use Rattle.seq_calls.specs.declared.outcomes.NodeRun.{NodeRun}
 use Rattle.seq_calls.specs.Frames.{nodes_of}
-use Rattle.seq_calls.specs.Demand.{ample}
 use Rattle.judge.specs.declared.comparing.BothRuns.{BothRuns}
 use Rattle.judge.specs.declared.comparing.CheckedRun.{CheckedRun}
 use Rattle.judge.specs.declared.comparing.Changes.{Changes}
-use Rattle.judge.specs.Changes.{OtherValue, MoreSteps, runs_at, Relies, Before, AtOrBefore, ReliesBefore, ReliesUpTo, IsAmong, IsNext, AreChanges, IsSoundStore}
+use Rattle.judge.specs.Changes.{OtherValue, MoreSteps, Relies, Before, AtOrBefore, ReliesBefore, ReliesUpTo, IsAmong, IsNext, AreChanges, IsSoundStore}
 use Rattle.judge.proofs.Demanded.{is_checked}
 use Rattle.judge.proofs.Fresh.{within_ample}
 use Rattle.judge.proofs.Frames.{among_next, next_old, next_new, relies_of, among_relies}

@@ -1,11 +1,10 @@
 -- Values, terms and outcomes.
-use Rattle.std.proofs.Common.{ℕ, zero, suc, ◌+◌, ◌<◌, ◌≤◌, ◌≡◌, ◌≢◌, refl, sym, ap, subst, ◌∙◌, arith, ℤ, pos, negsuc, Bool, true, false, eqb, cond, length, List, [], ◌∷◌}
+use Rattle.std.proofs.Common.{ℕ, zero, suc, ◌<◌, ◌≡◌, ◌≢◌, refl, sym, ap, subst, arith, ℤ, pos, negsuc, Bool, true, false, eqb, length, List, [], ◌∷◌}
 use Rattle.std.specs.Prelude.{IsTrue, IsFalse, slice_get, ◌⊎◌}
 use Rattle.std.proofs.Common.{inl, inr}
-use Rattle.std.specs.declared.option.Option.{Option}
-use Rattle.std.specs.declared.option.Option.TheVariants.{Some, None}
+use Rattle.std.specs.declared.option.Option.TheVariants.{Some}
 use Rattle.loda_semantics.specs.Exec.{Outcome, value, fault, out}
-use Rattle.judge.specs.Passed.{same_int, gives, Gives, agree}
+use Rattle.judge.specs.Passed.{same_int, Gives, agree}
 
 pub decide : (a b : ℕ) → (a ≡ b) ⊎ (a ≢ b)
 decide a b = by_test (eqb a b) refl

@@ -1,7 +1,7 @@
 -- Which leading terms of a row a program gives.
-use Rattle.std.specs.Prelude.{ℕ, ◌<◌, ◌≡◌, ◌⊎◌, ◌==◌, Bool, true, false, IsTrue, IsFalse, ℤ, pos, negsuc, List, length, slice_get}
+use Rattle.std.specs.Prelude.{ℕ, ◌<◌, ◌≡◌, ◌⊎◌, ◌==◌, Bool, false, IsTrue, IsFalse, ℤ, pos, negsuc, List, length, slice_get}
 use Rattle.std.specs.declared.option.Option.{Option}
-use Rattle.std.specs.declared.option.Option.TheVariants.{Some, None}
+use Rattle.std.specs.declared.option.Option.TheVariants.{Some}
 use Rattle.loda_semantics.specs.declared.kinds.FaultKind.TheVariants as kind
 use Rattle.loda_semantics.specs.Exec.{Outcome, value, fault, out, Library, run_name}
 use Rattle.judge.specs.declared.answer.Got.{Got}

@@ -1,4 +1,4 @@
-use Rattle.std.proofs.Common.{ℕ, ◌≡◌, sym}
+use Rattle.std.proofs.Common.{sym}
 use Rattle.oeis_terms.specs.Table.{row_of}
 use Rattle.judge.specs.Judged.{IsJudged}
 use Rattle.judge.specs.Replaced.{IsAnswer}

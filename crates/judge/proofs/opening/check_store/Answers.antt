@@ -1,4 +1,4 @@
-use Rattle.std.proofs.Common.{ℕ, ◌≡◌}
+use Rattle.std.proofs.Common.{◌≡◌}
 use Rattle.oeis_terms.specs.Table.{row_of}
 use Rattle.program_store.specs.Store.{programs_of}
 use Rattle.judge.proofs.Misses.{sound_below, at_fault, none_on_cycle}

@@ -1,4 +1,4 @@
-use Rattle.std.proofs.Common.{ℕ, ◌≡◌, sym, ap, subst, ◌∙◌, arith, length, ◌≤◌}
+use Rattle.std.proofs.Common.{sym, ap, subst, arith, length}
 use Rattle.std.specs.Prelude.{Option}
 use Rattle.oeis_terms.specs.Table.{row_of}
 use Rattle.judge.specs.declared.answer.Got.{Got}

@@ -1,4 +1,4 @@
-use Rattle.std.proofs.Common.{Bool, ap, length, arith, ◌≤◌, ◌≡◌}
+use Rattle.std.proofs.Common.{ap, length, arith, ◌≤◌}
 use Rattle.std.specs.Prelude.{IsTrue, ◌↔◌}
 use Rattle.loda_syntax.specs.Programs.{instrs}
 use Rattle.judge.specs.Replaced.{TakesSameSteps, BringsNothing}

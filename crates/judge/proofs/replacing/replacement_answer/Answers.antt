@@ -1,4 +1,4 @@
-use Rattle.std.proofs.Common.{ℕ, ◌≡◌, subst, ℤ}
+use Rattle.std.proofs.Common.{subst}
 use Rattle.std.specs.declared.option.Option.{Option}
 use Rattle.judge.specs.declared.comparing.Changed.{Changed}
 use Rattle.judge.specs.Changes.{runs_at, Relies, OtherValue, MoreSteps, IsLeast}

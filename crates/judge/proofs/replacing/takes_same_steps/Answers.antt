@@ -1,6 +1,5 @@
 use Rattle.std.proofs.Common.{arith}
 use Rattle.std.specs.Prelude.{IsTrue}
-use Rattle.judge.specs.Changes.{SameSteps}
 use Rattle.judge.proofs.Sides.{steps_more, steps_differ}
 use Rattle.judge.proofs.replacing.takes_same_steps.Goals as goal
 
