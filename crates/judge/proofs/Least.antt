@@ -8,9 +8,9 @@ use Rattle.judge.specs.declared.comparing.BothRuns.{BothRuns}
 use Rattle.judge.specs.declared.comparing.CheckedRun.{CheckedRun}
 use Rattle.judge.specs.declared.comparing.Changed.{Changed}
 use Rattle.judge.specs.declared.comparing.Changes.{Changes}
-use Rattle.judge.specs.Changes.{OtherValue, MoreSteps, AtOrBefore, IsLeastChange, IsLeast, AreChanges, IsKept, IsNext}
+use Rattle.judge.specs.Changes.{OtherValue, MoreSteps, AtOrBefore, IsLeastChange, IsLeast, AreChanges, IsLesser, IsNext}
 
-pub by_test : (b : Bool) (P : Type 0) (known next : Option Changed) (met : Changed) → (IsTrue b → P) → (P → IsTrue b) → IsKept b known met next → IsNext P known met next
+pub by_test : (b : Bool) (P : Type 0) (known next : Option Changed) (met : Changed) → (IsTrue b → P) → (P → IsTrue b) → IsLesser b known met next → IsNext P known met next
 by_test true P known next met to from k = inl (to refl, k)
 by_test false P known next met to from k = inr (λ h. let e : false ≡ true = from h in cc, k)
 
@@ -83,7 +83,7 @@ module _ (Kind : BothRuns → Type 0) (runs : ℤ → BothRuns) where
     moved : (known next : Option Changed) → known ≡ next → IsLeast Kind runs Then known → IsLeast Kind runs Then next
     moved known next e h = subst (λ (o : Option Changed). IsLeast Kind runs Then o) e h
 
-    kept_new : (known next : Option Changed) (given : BothRuns) → given ≡ runs at → Kind (runs at) → IsKept true known (new given) next → IsLeast Kind runs Relied known → IsLeast Kind runs Then next
+    kept_new : (known next : Option Changed) (given : BothRuns) → given ≡ runs at → Kind (runs at) → IsLesser true known (new given) next → IsLeast Kind runs Relied known → IsLeast Kind runs Then next
     kept_new None next given is change k h = moved (Some (new given)) next (sym k) (is_least given is change (λ r x m other. absurd (h r x m other)))
     kept_new (Some c) next given is change (inl k) h = moved (Some c) next (sym k.1) (stays c h k.0)
     kept_new (Some c) next given is change (inr k) h = moved (Some (new given)) next (sym k.1) (is_least given is change (above_all c h k.0))

@@ -90,14 +90,14 @@ pub record AreChanges (runs : ℤ → BothRuns) (Relied : CheckedRun → ℤ →
   pub more_steps : IsLeast MoreSteps runs Relied c.more_steps
 
 -- What is kept of a known one and one that was met: the lesser, and the known one where they are at one argument.
-abbrev pub IsKept : Bool → Option Changed → Changed → Option Changed → Type 0
-IsKept false known met next = next ≡ known
-IsKept true None met next = next ≡ Some met
-IsKept true (Some c) met next = ((c.at ≤ℤ met.at) × (next ≡ Some c)) ⊎ ((met.at <ℤ c.at) × (next ≡ Some met))
+abbrev pub IsLesser : Bool → Option Changed → Changed → Option Changed → Type 0
+IsLesser false known met next = next ≡ known
+IsLesser true None met next = next ≡ Some met
+IsLesser true (Some c) met next = ((c.at ≤ℤ met.at) × (next ≡ Some c)) ⊎ ((met.at <ℤ c.at) × (next ≡ Some met))
 
 -- the same, by whether what was met is a change
 abbrev pub IsNext : Type 0 → Option Changed → Changed → Option Changed → Type 0
-IsNext IsChange known met next = (IsChange × IsKept true known met next) ⊎ ((IsChange → ⊥) × IsKept false known met next)
+IsNext IsChange known met next = (IsChange × IsLesser true known met next) ⊎ ((IsChange → ⊥) × IsLesser false known met next)
 
 -- some terms for which the store is sound
 abbrev pub IsSoundStore : Store → ℕ → Type 0

@@ -3,7 +3,7 @@
 ghost use Rattle.std.specs.Prelude.{◌≡◌, ◌↔◌, IsTrue, IfOk};
 ghost use Rattle.seq_calls.specs.Frames.{told};
 ghost use Rattle.judge.specs.Passed.{outcome};
-ghost use Rattle.judge.specs.Changes.{runs_at, SameValue, OtherValue, MoreSteps, SameSteps, IsKept, IsNext};
+ghost use Rattle.judge.specs.Changes.{runs_at, SameValue, OtherValue, MoreSteps, SameSteps, IsLesser, IsNext};
 
 use checked_numbers::Num;
 use program_store::{Library, Overlay, Proposal, View};
@@ -121,7 +121,7 @@ pub fn has_same_steps(runs: &BothRuns) -> bool
 
 // The one with the lesser argument, and the known one where both have the same; a met one counts only if it is changed.
 fn lesser(known: Option<Changed>, met: &Changed, is_changed: bool) -> Option<Changed>
-    ensures { IsKept is_changed known met.now result }
+    ensures { IsLesser is_changed known met.now result }
 {
     if !is_changed {
         return known;

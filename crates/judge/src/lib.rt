@@ -8,6 +8,8 @@ mod judging;
 mod opening;
 mod passing;
 mod replacing;
+#[cfg(test)]
+mod tests;
 
 pub use answer::{Answer, Got, Unsound};
 pub use judging::judge;
