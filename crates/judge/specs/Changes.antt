@@ -1,8 +1,9 @@
 -- What a replacement changes for those who rely on a program.
-use Rattle.std.specs.Prelude.{ℕ, ◌<◌, ◌≤◌, ◌≡◌, ◌⊎◌, Bool, true, false, ℤ, pos, ◌<ℤ◌, ◌≤ℤ◌, List, [], ◌∷◌}
+use Rattle.std.specs.Prelude.{ℕ, ◌+◌, ◌<◌, ◌≤◌, ◌≡◌, ◌⊎◌, Bool, true, false, ℤ, pos, ◌<ℤ◌, ◌≤ℤ◌, List, [], ◌∷◌}
 use Rattle.std.specs.declared.option.Option.{Option}
 use Rattle.std.specs.declared.option.Option.TheVariants.{Some, None}
 use Rattle.loda_syntax.specs.Programs.{Text}
+use Rattle.program_store.specs.declared.published.Proposal.{Proposal}
 use Rattle.program_store.specs.Store.{Store, programs_of, checked_at}
 use Rattle.seq_calls.specs.declared.outcomes.Outcome.{Outcome as Told}
 use Rattle.seq_calls.specs.declared.outcomes.Outcome.TheVariants as told_as
@@ -23,7 +24,7 @@ use Rattle.judge.specs.Judged.{after}
 abbrev pub runs_at : Store → ℕ → ℕ → Text → ℤ → BothRuns
 runs_at s limit q p x = record { with_old = told (outcome (programs_of s) q x limit); with_new = told (outcome (after s q p) q x limit) }
 
--- two facts about values and steps, where both outcomes are values
+-- both outcomes are values, and P holds of the values and their steps
 abbrev pub BothValues : (ℤ → ℕ → ℤ → ℕ → Type 0) → Told → Told → Type 0
 BothValues P (told_as.Value v n) (told_as.Value w m) = P v n w m
 BothValues P a b = ⊥
@@ -61,6 +62,13 @@ AtOrBefore a b = (a.name < b.name) ⊎ ((a.name ≡ b.name) × (a.index ≤ b.in
 abbrev pub ReliesBefore : Store → ℕ → CheckedRun → CheckedRun → ℤ → Type 0
 ReliesBefore s q by r x = Relies s q r x × Before r by
 
+-- the first checked run of a name, and the one after a checked run
+abbrev pub first_run : ℕ → CheckedRun
+first_run name = record { name = name; index = 0 }
+
+abbrev pub next_run : CheckedRun → CheckedRun
+next_run by = record { name = by.name; index = by.index + 1 }
+
 -- the run of q at x is among these
 abbrev pub IsAmong : ℕ → ℤ → List NodeRun → Type 0
 IsAmong q x [] = ⊥
@@ -88,6 +96,18 @@ IsLeast Kind runs Relied (Some c) = IsLeastChange Kind runs Relied c
 pub record AreChanges (runs : ℤ → BothRuns) (Relied : CheckedRun → ℤ → Type 0) (c : Changes) : Type 0 where
   pub other_value : IsLeast OtherValue runs Relied c.other_value
   pub more_steps : IsLeast MoreSteps runs Relied c.more_steps
+
+-- the least changes that a proposal makes for all checked runs
+abbrev pub AreAllChanges : Store → ℕ → Proposal → Changes → Type 0
+AreAllChanges s limit proposal c = AreChanges (runs_at s limit proposal.name proposal.program) (Relies s proposal.name) c
+
+-- those for the checked runs before one of them
+abbrev pub AreChangesBefore : Store → ℕ → Proposal → CheckedRun → Changes → Type 0
+AreChangesBefore s limit proposal by c = AreChanges (runs_at s limit proposal.name proposal.program) (ReliesBefore s proposal.name by) c
+
+-- and for so many frames of that one
+abbrev pub AreChangesUpTo : Store → ℕ → Proposal → CheckedRun → List NodeRun → Changes → Type 0
+AreChangesUpTo s limit proposal by nodes c = AreChanges (runs_at s limit proposal.name proposal.program) (ReliesUpTo s proposal.name by nodes) c
 
 -- What is kept of a known one and one that was met: the lesser, and the known one where they are at one argument.
 abbrev pub IsLesser : Bool → Option Changed → Changed → Option Changed → Type 0

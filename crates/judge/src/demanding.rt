@@ -2,7 +2,7 @@
 
 ghost use Rattle.std.specs.Prelude.{◌≡◌, ◌+◌, ◌<◌, ◌≤◌, IfOk};
 ghost use Rattle.program_store.specs.Store.{IsStore, checked_at};
-ghost use Rattle.judge.specs.Changes.{runs_at, Relies, ReliesBefore, ReliesUpTo, AreChanges, IsSoundStore};
+ghost use Rattle.judge.specs.Changes.{AreAllChanges, AreChangesBefore, AreChangesUpTo, IsSoundStore, first_run, next_run};
 
 use crate::comparing::{Changed, Changes, CheckedRun, both_runs};
 use crate::passing::number_of;
@@ -20,8 +20,8 @@ fn after_frames<V: View>(
     frames: &[NodeRun],
     mut changes: Changes,
 ) -> Result<Changes, AllocError>
-    requires { AreChanges (runs_at (V.store view.now) limit proposal.now.name proposal.now.program) (ReliesBefore (V.store view.now) proposal.now.name by) changes }
-    ensures { IfOk result (AreChanges (runs_at (V.store view.now) limit proposal.now.name proposal.now.program) (ReliesUpTo (V.store view.now) proposal.now.name by frames.now)) }
+    requires { AreChangesBefore (V.store view.now) limit proposal.now by changes }
+    ensures { IfOk result (AreChangesUpTo (V.store view.now) limit proposal.now by frames.now) }
 {
     for frame in frames {
         if frame.pair.name != proposal.name {
@@ -46,8 +46,8 @@ fn after_run<V: View>(
     requires limit { limit ≤ 10000000 }
     requires sound { IsSoundStore (V.store view.now) limit }
     requires checked { by.index < checked_at (V.store view.now) by.name }
-    requires changes { AreChanges (runs_at (V.store view.now) limit proposal.now.name proposal.now.program) (ReliesBefore (V.store view.now) proposal.now.name by) changes }
-    ensures { IfOk result (AreChanges (runs_at (V.store view.now) limit proposal.now.name proposal.now.program) (ReliesBefore (V.store view.now) proposal.now.name (record { name = by.name; index = by.index + 1 }))) }
+    requires changes { AreChangesBefore (V.store view.now) limit proposal.now by changes }
+    ensures { IfOk result (AreChangesBefore (V.store view.now) limit proposal.now (next_run by)) }
 {
     let run = evaluate_alone(alloc, view, by.name, number_of(by.index), limit)?;
     let frames = run.nodes.list();
@@ -75,8 +75,8 @@ fn after_name<V: View>(
 ) -> Result<Changes, AllocError>
     requires limit { limit ≤ 10000000 }
     requires sound { IsSoundStore (V.store view.now) limit }
-    requires changes { AreChanges (runs_at (V.store view.now) limit proposal.now.name proposal.now.program) (ReliesBefore (V.store view.now) proposal.now.name (record { name = name; index = 0 })) changes }
-    ensures { IfOk result (AreChanges (runs_at (V.store view.now) limit proposal.now.name proposal.now.program) (ReliesBefore (V.store view.now) proposal.now.name (record { name = name + 1; index = 0 }))) }
+    requires changes { AreChangesBefore (V.store view.now) limit proposal.now (first_run name) changes }
+    ensures { IfOk result (AreChangesBefore (V.store view.now) limit proposal.now (first_run (name + 1))) }
 {
     let count = checked_count(view, name);
     for index in 0..count {
@@ -96,7 +96,7 @@ pub fn changes_of<V: View>(
     requires limit { limit ≤ 10000000 }
     requires sound { IsSoundStore (V.store view.now) limit }
     requires store { IsStore (V.store view.now) }
-    ensures { IfOk result (AreChanges (runs_at (V.store view.now) limit proposal.now.name proposal.now.program) (Relies (V.store view.now) proposal.now.name)) }
+    ensures { IfOk result (AreAllChanges (V.store view.now) limit proposal.now) }
 {
     let mut changes = Changes {
         other_value: None,
