@@ -23,11 +23,14 @@ const SQUARE: &str = "= A000290 10\nmul $0,$0\n= A016742 8\nmul $0,2\nseq $0,290
 
 const LOOPED: &str = "= A000001 8\nseq $0,2\n= A000002 8\nseq $0,1\n";
 
+const CHAIN: &str =
+    "= A000001 8\nadd $0,1\n= A000002 8\nseq $0,1\n= A000003 8\nseq $0,2\n= A000004 8\nseq $0,3\n";
+
 // A name that is not published, a name called twice, and a cycle that others reach.
 const TANGLED: &str =
     "= A000003 8\nseq $0,9\nseq $1,7\nseq $0,9\n= A000005 8\nseq $0,3\n= A000007 8\nseq $0,8\n= A000008 8\nseq $0,12\nseq $0,7\n= A000009 8\n";
 
-const ROWS: [Row; 7] = [
+const ROWS: [Row; 9] = [
     Row {
         text: SQUARE,
         cycle: None,
@@ -72,6 +75,24 @@ const ROWS: [Row; 7] = [
         target: 1,
         descendants: &[1, 2],
         ancestors: &[1, 2],
+    },
+    Row {
+        text: CHAIN,
+        cycle: None,
+        name: 4,
+        first: Some(3),
+        target: 1,
+        descendants: &[1, 2, 3],
+        ancestors: &[],
+    },
+    Row {
+        text: CHAIN,
+        cycle: None,
+        name: 2,
+        first: None,
+        target: 4,
+        descendants: &[1],
+        ancestors: &[3, 4],
     },
     Row {
         text: TANGLED,
