@@ -1,0 +1,38 @@
+use Rattle.loda_mine.proofs.Ends.{usage_is, write_failed, read_failed, nothing_written}
+use Rattle.loda_mine.proofs.Exact.{exactly, complete, done_wrote, headline}
+use Rattle.loda_mine.proofs.First.{first_stop, earlier_opened}
+use Rattle.loda_mine.proofs.OneOutput.{one_output}
+use Rattle.loda_mine.proofs.run.run_plain.Goals as goal
+
+pub returns-clause-usage : goal.returns-clause-usage
+returns-clause-usage g c = usage_is _ _ _ _ _ c.run.result c.run.ensures.run
+
+pub returns-clause-read : goal.returns-clause-read
+returns-clause-read g c = λ file e. read_failed _ _ _ _ _ file (rw e at c.run.ensures.run)
+
+pub returns-clause-write : goal.returns-clause-write
+returns-clause-write g c = λ e. write_failed _ _ _ _ _ (rw e at c.run.ensures.run)
+
+pub returns-clause-nothing : goal.returns-clause-nothing
+returns-clause-nothing g c = λ n m. nothing_written _ _ _ _ _ c.run.result c.run.ensures.run n m
+
+pub returns-clause-exact : goal.returns-clause-exact
+returns-clause-exact g c = λ request files is tells. exactly _ _ _ _ _ c.run.result request files c.run.ensures.run is tells
+
+pub returns-clause-complete : goal.returns-clause-complete
+returns-clause-complete g c = λ request files inside is opens ready none. complete _ _ _ _ _ c.run.result request files inside c.run.ensures.run is opens ready none
+
+pub returns-clause-done : goal.returns-clause-done
+returns-clause-done g c = λ request files is tells e. done_wrote _ _ _ _ _ request files (rw e at c.run.ensures.run) is tells
+
+pub returns-clause-one : goal.returns-clause-one
+returns-clause-one g c = one_output
+
+pub returns-clause-before : goal.returns-clause-before
+returns-clause-before g c = λ asks file earlier bytes is e order tells. earlier_opened _ _ _ _ _ asks file earlier bytes (rw e at c.run.ensures.run) is order tells
+
+pub returns-clause-first : goal.returns-clause-first
+returns-clause-first g c = λ asks files file s is tells stop. first_stop _ _ _ _ _ c.run.result asks files file s c.run.ensures.run is tells stop
+
+pub returns-clause-headline : goal.returns-clause-headline
+returns-clause-headline g c = λ asks files is task tells e. headline _ _ _ _ _ asks files (rw e at c.run.ensures.run) is task tells

@@ -1,0 +1,120 @@
+-- What is answered, by what was found at the paths.
+use Rattle.std.specs.Prelude.{◌≡◌, ℕ, List, length, Result, Ok, Err}
+use Rattle.std.specs.declared.option.Option.TheVariants.{Some, None}
+use Rattle.std.specs.Global.{Vec}
+use Rattle.loda_io.specs.declared.ReadError.{ReadError}
+use Rattle.loda_io.specs.declared.ReadError.TheVariants as errors
+use Rattle.loda_semantics.specs.Exec.{run_name}
+use Rattle.oeis_terms.specs.Stripped as terms_file
+use Rattle.oeis_terms.specs.Table.{Table, row_of}
+use Rattle.program_store.specs.declared.errors.StoreKind.{StoreKind}
+use Rattle.program_store.specs.declared.published.Proposal.{Proposal}
+use Rattle.program_store.specs.declared.published.Published.{Published}
+use Rattle.program_store.specs.Files as store_file
+use Rattle.program_store.specs.Store as stores
+use Rattle.program_store.specs.Store.{published_at, programs_of}
+use Rattle.seq_calls.specs.Frames.{told}
+use Rattle.judge.specs.Sound.{Sound, IsUnsound}
+use Rattle.publish_desk.specs.declared.charter.Source.TheVariants.{Listed}
+use Rattle.publish_desk.specs.Desk.{Desk, IsKept, history}
+use Rattle.publish_desk.specs.History.{IsInOrder}
+use Rattle.publish_desk.specs.Report.{report}
+use Rattle.loda_mine.specs.declared.files.Contents.{Contents}
+use Rattle.loda_mine.specs.declared.status.FileRole.{FileRole}
+use Rattle.loda_mine.specs.declared.status.FileRole.TheVariants.{Terms, Store, Candidates}
+use Rattle.loda_mine.specs.declared.status.Status.{Status}
+use Rattle.loda_mine.specs.declared.status.Status.TheVariants as statuses
+use Rattle.loda_mine.specs.declared.words.Task.{Task}
+use Rattle.loda_mine.specs.declared.words.Task.TheVariants.{Publish, Check, Eval}
+use Rattle.loda_mine.specs.Words.{Request}
+use Rattle.loda_mine.specs.Outputs.{outcome_text, sound_text}
+
+-- what reading each file gave: its bytes, or an error
+pub record Found : Type 0 where
+  pub terms : Result (List ℕ) ReadError
+  pub store : Result (List ℕ) ReadError
+  pub candidates : Result (List ℕ) ReadError
+
+infixl 10 ◌>>=◌
+abbrev pub ◌>>=◌ : {A B : Type 0} → Result A Status → (A → Result B Status) → Result B Status
+(Ok x) >>= f = f x
+(Err e) >>= f = Err e
+
+-- ---- the files
+
+-- the status for a file that was not read
+abbrev pub status_of : FileRole → ReadError → Status
+status_of file errors.Failed = statuses.ReadFault file
+status_of file (errors.FileTooLarge size) = statuses.FileTooLarge file size
+status_of file (errors.LineTooLong line) = statuses.LineTooLong file line
+status_of file errors.Memory = statuses.Memory
+
+abbrev pub bytes_of : FileRole → Result (List ℕ) ReadError → Result (List ℕ) Status
+bytes_of file (Ok bytes) = Ok bytes
+bytes_of file (Err e) = Err (status_of file e)
+
+abbrev pub table_in : Result Table terms_file.Fault → Result Table Status
+table_in (Ok table) = Ok table
+table_in (Err fault) = Err (statuses.BadTerms fault.line fault.kind)
+
+abbrev pub parsed_in : {A : Type 0} → (ℕ → StoreKind → Status) → Result A store_file.Fault → Result A Status
+parsed_in bad (Ok x) = Ok x
+parsed_in bad (Err fault) = Err (bad fault.line fault.kind)
+
+abbrev pub terms_of : Result (List ℕ) ReadError → Result Table Status
+terms_of found = bytes_of Terms found >>= λ bytes. table_in (terms_file.stripped bytes)
+
+-- what a store or a candidates file gives
+abbrev pub parsed_of : {A : Type 0} → FileRole → (ℕ → StoreKind → Status) → (List ℕ → Result A store_file.Fault) → Result (List ℕ) ReadError → Result A Status
+parsed_of file bad read found = bytes_of file found >>= λ bytes. parsed_in bad (read bytes)
+
+abbrev pub store_of : Result (List ℕ) ReadError → Result stores.Store Status
+store_of found = parsed_of Store statuses.BadStore store_file.store_read found
+
+abbrev pub candidates_of : Result (List ℕ) ReadError → Result (List Proposal) Status
+candidates_of found = parsed_of Candidates statuses.BadCandidates store_file.candidates_read found
+
+-- The files are read and parsed one after the other, and the first status is answered.
+unfoldable pub contents_of : Found → Result Contents Status
+contents_of found =
+    terms_of found.terms >>= λ terms. store_of found.store >>= λ store. candidates_of found.candidates >>= λ candidates.
+    Ok (record { terms = terms; store = store; candidates = candidates })
+
+-- ---- the commands
+
+-- A desk that was opened on what stands in the files, and has decided every candidate, in order. What every desk keeps is
+-- kept: the journal is legal and replays to the store, the store is sound, and nothing was lost.
+pub record IsDecided (contents : Contents) (limit : ℕ) (d : Desk) : Type 0 where
+  pub charter : d.charter ≡ record { opening = contents.store; terms = contents.terms; limit = limit; source = Listed contents.candidates; jobs = length contents.candidates }
+  pub kept : IsKept d
+  pub in_order : IsInOrder (history d)
+  pub whole : length d.journal ≡ length contents.candidates
+
+-- what a command writes
+abbrev pub Writes : Task → ℕ → Contents → List ℕ → Type 0
+Writes Publish limit contents output = (d : Desk) × IsDecided contents limit d × (output ≡ report d.journal d.version d.store)
+Writes Check limit contents output = Sound contents.store (row_of contents.terms) limit × (output ≡ sound_text contents)
+Writes (Eval name arg) limit contents output =
+    (e : Published) × (published_at contents.store name ≡ Some e) × (output ≡ outcome_text (told (run_name (programs_of contents.store) name arg limit).0))
+
+-- why it writes nothing: the opening store isn't sound, the name isn't published, or memory ran out
+abbrev pub Refuses : Task → ℕ → Contents → Status → Type 0
+Refuses task limit contents statuses.Memory = Unit {0}
+Refuses Publish limit contents (statuses.Unsound reason) = IsUnsound contents.store (row_of contents.terms) limit reason
+Refuses Check limit contents (statuses.Unsound reason) = IsUnsound contents.store (row_of contents.terms) limit reason
+Refuses (Eval name arg) limit contents (statuses.Absent absent) = (absent ≡ name) × (published_at contents.store name ≡ None)
+Refuses task limit contents status = ⊥
+
+abbrev pub IsOutput : Task → ℕ → Contents → Result (List ℕ) Status → Type 0
+IsOutput task limit contents (Ok output) = Writes task limit contents output
+IsOutput task limit contents (Err status) = Refuses task limit contents status
+
+-- The answer: the status of the first file that stops the run, or what the command makes of the files.
+abbrev pub IsAnswer : Request → Result Contents Status → Result (List ℕ) Status → Type 0
+IsAnswer request (Ok contents) answer = IsOutput request.task request.limit contents answer
+IsAnswer request (Err status) answer = answer ≡ Err status
+
+-- an output of the code, by its bytes
+abbrev pub bytes_in : Result (Vec ℕ) Status → Result (List ℕ) Status
+bytes_in (Ok output) = Ok output.items
+bytes_in (Err status) = Err status

@@ -1,0 +1,6 @@
+pub mod Words
+pub mod Requests
+pub mod Outputs
+pub mod Answer
+pub mod Run
+pub mod Files

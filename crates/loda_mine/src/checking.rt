@@ -1,0 +1,134 @@
+//! `check` and `eval`.
+
+ghost use Rattle.std.specs.Prelude.{◌≡◌, ◌≤◌, ◌++◌, OnOk, IfOk, Result, Ok, Err};
+ghost use Rattle.std.specs.Fmt.{decimal};
+ghost use Rattle.oeis_terms.specs.Table.{IsBounded};
+ghost use Rattle.loda_semantics.specs.Exec.{run_name};
+ghost use Rattle.program_store.specs.Store.{programs_of};
+ghost use Rattle.seq_calls.specs.Frames.{told};
+ghost use Rattle.loda_mine.specs.Outputs.{fault_text, outcome_text, count_line, sound_text};
+ghost use Rattle.loda_mine.specs.Answer.{IsOutput, bytes_in};
+
+use crate::files::Contents;
+use crate::status::Status;
+use crate::words::Task;
+use checked_numbers::{Num, write_num};
+use itoa::Buffer;
+use judge::{CheckError, check_store};
+use loda_semantics::FaultKind;
+use program_store::{Store, View};
+use seq_calls::{Outcome, evaluate_alone};
+use std::alloc::{AllocError, Global};
+
+// Adds a word and a count.
+fn write_counted(out: &mut Vec<u8>, word: &[u8], count: u64) -> Result<(), AllocError>
+    ensures { OnOk result (out.new.items ≡ out.old.items ++ (word.now ++ decimal count)) }
+{
+    let mut buffer = Buffer::new();
+    out.extend_from_slice(word)?;
+    out.extend_from_slice(buffer.format(count).as_bytes())
+}
+
+// Adds a line of a word and a count.
+fn write_line(out: &mut Vec<u8>, word: &[u8], count: u64) -> Result<(), AllocError>
+    ensures { OnOk result (out.new.items ≡ out.old.items ++ count_line word.now count) }
+{
+    write_counted(out, word, count)?;
+    out.extend_from_slice(b"\n")
+}
+
+// Adds the numbers of rows, of skipped rows and of programs, and that the store is sound.
+#[tactic(auto, unfolding(crate::specs::Outputs::sound_text))]
+fn write_sound(out: &mut Vec<u8>, contents: &Contents) -> Result<(), AllocError>
+    ensures { OnOk result (out.new.items ≡ out.old.items ++ sound_text contents.now) }
+{
+    write_line(out, b"rows ", contents.terms.rows() as u64)?;
+    write_line(out, b"skipped ", contents.terms.skipped())?;
+    write_line(out, b"programs ", contents.store.len() as u64)?;
+    out.extend_from_slice(b"sound\n")
+}
+
+/// Whether the store is sound, and how much there is of what.
+pub fn check(alloc: Global, contents: &Contents, limit: u64) -> Result<Vec<u8>, Status>
+    requires limit { limit ≤ 10000000 }
+    requires bounded { IsBounded contents.now.terms }
+    ensures { IsOutput Task.Check limit contents.now (bytes_in result) }
+{
+    match check_store(alloc, &contents.store, &contents.terms, limit) {
+        Ok(()) => {}
+        Err(CheckError::Unsound(reason)) => return Err(Status::Unsound(reason)),
+        Err(CheckError::Memory) => return Err(Status::Memory),
+    }
+    let mut output = Vec::new(alloc);
+    match write_sound(&mut output, contents) {
+        Ok(()) => Ok(output),
+        Err(_) => Err(Status::Memory),
+    }
+}
+
+// Adds a fault's word.
+fn write_fault(out: &mut Vec<u8>, kind: FaultKind) -> Result<(), AllocError>
+    ensures { OnOk result (out.new.items ≡ out.old.items ++ fault_text kind) }
+{
+    match kind {
+        FaultKind::Overflow => out.extend_from_slice(b"overflow"),
+        FaultKind::DivideByZero => out.extend_from_slice(b"divide-by-zero"),
+        FaultKind::BadCell => out.extend_from_slice(b"bad-cell"),
+        FaultKind::Missing => out.extend_from_slice(b"missing"),
+    }
+}
+
+// Adds what a run came to.
+#[tactic(auto, unfolding(crate::specs::Outputs::outcome_text))]
+fn write_outcome(out: &mut Vec<u8>, outcome: Outcome) -> Result<(), AllocError>
+    ensures { OnOk result (out.new.items ≡ out.old.items ++ outcome_text outcome) }
+{
+    match outcome {
+        Outcome::Value { value, steps } => {
+            out.extend_from_slice(b"value ")?;
+            write_num(out, value)?;
+            write_line(out, b" steps ", steps)
+        }
+        Outcome::Fault { kind, steps } => {
+            out.extend_from_slice(b"fault ")?;
+            write_fault(out, kind)?;
+            write_line(out, b" steps ", steps)
+        }
+        Outcome::OutOfSteps => out.extend_from_slice(b"out-of-steps\n"),
+    }
+}
+
+// What the run of a name came to.
+fn outcome_of(
+    alloc: Global,
+    store: &Store,
+    name: u32,
+    arg: Num,
+    limit: u64,
+) -> Result<Vec<u8>, AllocError>
+    ensures { IfOk result (λ output. output.items ≡ outcome_text (told (run_name (programs_of store.now) name arg limit).0)) }
+{
+    let run = evaluate_alone(alloc, store, name, arg, limit)?;
+    let mut output = Vec::new(alloc);
+    write_outcome(&mut output, run.outcome)?;
+    Ok(output)
+}
+
+/// What the program of a name comes to at an argument.
+pub fn eval(
+    alloc: Global,
+    contents: &Contents,
+    name: u32,
+    arg: Num,
+    limit: u64,
+) -> Result<Vec<u8>, Status>
+    ensures { IsOutput (Task.Eval name arg) limit contents.now (bytes_in result) }
+{
+    if contents.store.published(name).is_none() {
+        return Err(Status::Absent { name });
+    }
+    match outcome_of(alloc, &contents.store, name, arg, limit) {
+        Ok(output) => Ok(output),
+        Err(_) => Err(Status::Memory),
+    }
+}

@@ -1,0 +1,100 @@
+//! `publish`: every candidate is decided, in order.
+
+ghost use Rattle.std.specs.Prelude.{◌≡◌, ◌<◌, ◌≤◌, ◌+◌, [], length, IfOk, OnOk, Err};
+ghost use Rattle.oeis_terms.specs.Table.{IsBounded};
+ghost use Rattle.publish_desk.specs.Desk.{IsKept, history};
+ghost use Rattle.publish_desk.specs.History.{IsInOrder};
+ghost use Rattle.publish_desk.specs.Report.{report};
+ghost use Rattle.publish_desk.specs.declared.charter.Source.TheVariants.{Listed};
+ghost use Rattle.loda_mine.specs.declared.status.Status.{Status as status};
+ghost use Rattle.loda_mine.specs.Answer.{Refuses, IsOutput, bytes_in};
+
+use crate::files::Contents;
+use crate::status::Status;
+use crate::words::Task;
+use publish_desk::{Desk, OpenError, Origin, write_report};
+use std::alloc::{AllocError, Global};
+use std::sync::Arc;
+
+// A desk on what stands in the files.
+fn open_desk(alloc: Global, contents: Contents, limit: u64) -> Result<Desk, Status>
+    requires limit { (1 ≤ limit) × (limit ≤ 10000000) }
+    requires bounded { IsBounded contents.terms }
+    ensures charter { IfOk result (λ d. d.charter ≡ record { opening = contents.store; terms = contents.terms; limit = limit; source = Listed contents.candidates; jobs = length contents.candidates }) }
+    ensures journal { IfOk result (λ d. d.journal ≡ []) }
+    ensures kept { IfOk result IsKept }
+    ensures refused { (s : status) → result ≡ Err s → Refuses Task.Publish limit contents s }
+{
+    let jobs = contents.candidates.len();
+    let Ok(terms) = Arc::new(alloc, contents.terms) else {
+        return Err(Status::Memory);
+    };
+    let Ok(candidates) = Arc::new(alloc, contents.candidates) else {
+        return Err(Status::Memory);
+    };
+    match Desk::start(
+        alloc,
+        contents.store,
+        terms,
+        limit,
+        Origin::Listed(candidates),
+        jobs,
+    ) {
+        Ok(desk) => Ok(desk),
+        Err(OpenError::Unsound(reason)) => Err(Status::Unsound(reason)),
+        Err(OpenError::Memory) => Err(Status::Memory),
+    }
+}
+
+// Decides the next job.
+fn decide_next(alloc: Global, desk: &mut Desk) -> Result<(), AllocError>
+    requires more { length desk.old.journal < desk.old.charter.jobs }
+    requires in_order { IsInOrder (history desk.old) }
+    ensures charter { OnOk result (desk.new.charter ≡ desk.old.charter) }
+    ensures longer { OnOk result (length desk.new.journal ≡ length desk.old.journal + 1) }
+    ensures in_order { OnOk result (IsInOrder (history desk.new)) }
+{
+    let job = desk.entries().len() as u64;
+    let finding = desk.find(alloc, job)?;
+    desk.admit(job, finding)?;
+    Ok(())
+}
+
+// Decides every job, in order.
+fn decide_all(alloc: Global, desk: &mut Desk) -> Result<(), AllocError>
+    requires new { desk.old.journal ≡ [] }
+    ensures charter { OnOk result (desk.new.charter ≡ desk.old.charter) }
+    ensures whole { OnOk result (length desk.new.journal ≡ desk.new.charter.jobs) }
+    ensures in_order { OnOk result (IsInOrder (history desk.new)) }
+{
+    for _ in 0..desk.jobs() {
+        decide_next(alloc, desk)?;
+    }
+    Ok(())
+}
+
+fn report_of(alloc: Global, desk: &Desk) -> Result<Vec<u8>, AllocError>
+    ensures report { IfOk result (λ output. output.items ≡ report desk.now.journal desk.now.version desk.now.store) }
+    ensures kept { IsKept desk.now }
+{
+    let mut output = Vec::new(alloc);
+    let _ = desk.version();
+    write_report(desk, &mut output)?;
+    Ok(output)
+}
+
+/// The report of the one journal that takes the candidates in order, each with the version at its place as its base.
+pub fn publish(alloc: Global, contents: Contents, limit: u64) -> Result<Vec<u8>, Status>
+    requires limit { (1 ≤ limit) × (limit ≤ 10000000) }
+    requires bounded { IsBounded contents.terms }
+    ensures { IsOutput Task.Publish limit contents (bytes_in result) }
+{
+    let mut desk = open_desk(alloc, contents, limit)?;
+    let Ok(()) = decide_all(alloc, &mut desk) else {
+        return Err(Status::Memory);
+    };
+    match report_of(alloc, &desk) {
+        Ok(output) => Ok(output),
+        Err(_) => Err(Status::Memory),
+    }
+}

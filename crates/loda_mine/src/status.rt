@@ -1,0 +1,95 @@
+//! How a run ends.
+
+ghost use Rattle.std.specs.Prelude.{◌≡◌};
+ghost use Rattle.loda_mine.specs.Answer.{status_of};
+
+use crate::text::Reason;
+use judge::Unsound;
+use loda_io::ReadError;
+use oeis_terms::TermsKind;
+use program_store::StoreKind;
+use thiserror::Error;
+
+/// A file of a command.
+#[derive(Clone, Copy, Debug, PartialEq, Eq, Error)]
+pub enum FileRole {
+    #[error("terms")]
+    Terms,
+    #[error("store")]
+    Store,
+    #[error("candidates")]
+    Candidates,
+}
+
+/// How a run ends. Lines, columns and sizes count from 1.
+#[derive(Clone, Copy, Debug, PartialEq, Eq, Error)]
+pub enum Status {
+    /// All inputs were read to their ends, and the whole output was written.
+    #[error("done")]
+    Done,
+    /// The words are in no command's grammar.
+    #[error("usage")]
+    Usage,
+    /// The shelf failed to read the file, and has counted it.
+    #[error("cannot read {file}")]
+    ReadFault { file: FileRole },
+    /// The file has more than 268,435,456 bytes.
+    #[error("{file} too large at byte {size}")]
+    FileTooLarge { file: FileRole, size: u64 },
+    /// The line has more than 65,536 bytes.
+    #[error("{file} line {line} too long")]
+    LineTooLong { file: FileRole, line: u64 },
+    /// The first bad line of the terms.
+    #[error("terms line {line}: {kind}")]
+    BadTerms { line: u64, kind: TermsKind },
+    /// The first fault of the store file.
+    #[error("store line {line}: {kind}")]
+    BadStore { line: u64, kind: StoreKind },
+    /// The first fault of the candidates file.
+    #[error("candidates line {line}: {kind}")]
+    BadCandidates { line: u64, kind: StoreKind },
+    /// The opening store is not sound.
+    #[error("unsound: {}", Reason(*.0))]
+    Unsound(Unsound),
+    /// No program of that name is published.
+    #[error("no program A{name:06}")]
+    Absent { name: u32 },
+    /// The sink failed, and has counted it. A first part of the output was written.
+    #[error("cannot write")]
+    WriteFault,
+    /// Memory ran out.
+    #[error("out of memory")]
+    Memory,
+}
+
+/// The status for a file that was not read.
+pub fn status_of(file: FileRole, error: ReadError) -> Status
+    ensures { result ≡ status_of file error }
+{
+    match error {
+        ReadError::Failed => Status::ReadFault { file },
+        ReadError::FileTooLarge { size } => Status::FileTooLarge { file, size },
+        ReadError::LineTooLong { line } => Status::LineTooLong { file, line },
+        ReadError::Memory => Status::Memory,
+    }
+}
+
+impl Status {
+    /// The number that the program ends with.
+    pub fn number(self) -> u8 {
+        match self {
+            Status::Done => 0,
+            Status::Usage => 2,
+            Status::ReadFault { .. } => 3,
+            Status::WriteFault => 4,
+            Status::FileTooLarge { .. } => 5,
+            Status::LineTooLong { .. } => 6,
+            Status::BadTerms { .. } => 7,
+            Status::BadStore { .. } => 8,
+            Status::BadCandidates { .. } => 9,
+            Status::Unsound(_) => 10,
+            Status::Memory => 11,
+            Status::Absent { .. } => 12,
+        }
+    }
+}

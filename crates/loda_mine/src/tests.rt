@@ -1,0 +1,713 @@
+//! Whole runs, from the words and the files to the status and the output.
+
+use crate::run::run_plain;
+use crate::status::{FileRole, Status};
+use checked_numbers::Num;
+use judge::{Got, Unsound};
+use loda_io::{File, HonestShelf, MemoryShelf, MemorySink, Shelf};
+use loda_syntax::SyntaxKind;
+use oeis_terms::TermsKind;
+use program_store::StoreKind;
+use std::alloc::{AllocError, Global};
+use std::fmt::Write;
+use std::process::Abort;
+use std::test::Fail;
+
+const SQUARES: &str = "A000290 ,0,1,4,9,16,25,36,49,64,81,\n";
+
+const BOTH: &str = "A000290 ,0,1,4,9,16,25,36,49,64,81,\nA016742 ,0,4,16,36,64,100,144,196,\n";
+
+const SQUARE: &str = "? A000290\nmul $0,$0\n";
+
+const FIBONACCI: &str =
+    "= A000045 10\n; Fibonacci numbers\nmov $1,1\nlpb $0\nsub $0,1\nmov $3,$1\nadd $1,$2\nmov $2,$3\nlpe\nmov $0,$2\n";
+
+const FIBONACCI_TERMS: &str = "A000045 ,0,1,1,2,3,5,8,13,21,34,\n";
+
+const FIBONACCI_CANDIDATE: &str =
+    "? A000045\nmov $1,1\nlpb $0\nsub $0,1\nmov $3,$1\nadd $1,$2\nmov $2,$3\nlpe\nmov $0,$2\n";
+
+// The words, the files `t`, `s` and `c`, the status, and the output.
+#[derive(Drop)]
+struct Row {
+    words: &'static [&'static str],
+    terms: &'static str,
+    store: &'static str,
+    candidates: &'static str,
+    status: Status,
+    output: &'static str,
+}
+
+fn words_of(alloc: Global, words: &[&str]) -> Result<Vec<String>, AllocError> {
+    let mut all = Vec::new(alloc);
+    for word in words {
+        all.push(String::from_str(alloc, word)?)?;
+    }
+    Ok(all)
+}
+
+fn file(alloc: Global, name: &str, text: &str) -> Result<File, AllocError> {
+    let name = String::from_str(alloc, name)?;
+    let bytes = Vec::from_slice(alloc, text.as_bytes())?;
+    Ok(File::of(name, bytes))
+}
+
+fn files(alloc: Global, row: &Row) -> Result<Vec<File>, AllocError> {
+    let mut files = Vec::new(alloc);
+    files.push(file(alloc, "t", row.terms)?)?;
+    files.push(file(alloc, "s", row.store)?)?;
+    files.push(file(alloc, "c", row.candidates)?)?;
+    Ok(files)
+}
+
+fn check_rows(rt: &impl Abort, alloc: Global, rows: &[Row]) -> Result<(), Fail> {
+    for row in rows {
+        let words = words_of(alloc, row.words)?;
+        let mut shelf = MemoryShelf::new(files(alloc, row)?, Vec::new(alloc));
+        let mut sink = MemorySink::new(alloc, 10_000, 10_000, Vec::new(alloc), Vec::new(alloc))?;
+        let status = run_plain(alloc, &words, &mut shelf, &mut sink);
+        assert_eq!(rt; status, row.status);
+        assert_eq!(rt; sink.bytes(), row.output.as_bytes());
+    }
+    Ok(())
+}
+
+const PUBLISH: &[&str] = &["publish", "terms=t", "store=-", "cands=c"];
+
+const fn published(terms: &'static str, candidates: &'static str, output: &'static str) -> Row {
+    Row {
+        words: PUBLISH,
+        terms,
+        store: "",
+        candidates,
+        status: Status::Done,
+        output,
+    }
+}
+
+#[test]
+fn publishes_new_names(rt: HostRuntime) -> Result<(), Fail> {
+    let rows = [
+        // square-published
+        published(
+            SQUARES,
+            SQUARE,
+            "journal\njob 0 base 0 A000290 accepted 10\nmul $0,$0\nstore\n= A000290 10\nmul $0,$0\nend jobs 1 version 1\n",
+        ),
+        // wrong-at-one
+        published(
+            SQUARES,
+            "? A000290\nadd $0,$0\n",
+            "journal\njob 0 base 0 A000290 wrong 1 got 2\nadd $0,$0\nstore\nend jobs 1 version 0\n",
+        ),
+        // unlisted-name
+        published(
+            SQUARES,
+            "? A000027\nadd $0,1\n",
+            "journal\njob 0 base 0 A000027 unlisted\nadd $0,1\nstore\nend jobs 1 version 0\n",
+        ),
+        // empty-inputs
+        published("", "", "journal\nstore\nend jobs 0 version 0\n"),
+        // caller-of-square
+        published(
+            BOTH,
+            "? A000290\nmul $0,$0\n? A016742\nmul $0,2\nseq $0,290\n",
+            "journal\njob 0 base 0 A000290 accepted 10\nmul $0,$0\njob 1 base 1 A016742 accepted 8\nmul $0,2\nseq $0,290\nstore\n= A000290 10\nmul $0,$0\n= A016742 8\nmul $0,2\nseq $0,290\nend jobs 2 version 2\n",
+        ),
+        // missing-callee
+        published(
+            BOTH,
+            "? A016742\nmul $0,2\nseq $0,290\n",
+            "journal\njob 0 base 0 A016742 wrong 0 got missing\nmul $0,2\nseq $0,290\nstore\nend jobs 1 version 0\n",
+        ),
+        // self-call
+        published(
+            BOTH,
+            "? A000290\nseq $0,290\n",
+            "journal\njob 0 base 0 A000290 cycle A000290\nseq $0,290\nstore\nend jobs 1 version 0\n",
+        ),
+    ];
+    check_rows(&rt, rt.alloc(), &rows)
+}
+
+#[test]
+fn judges_replacements(rt: HostRuntime) -> Result<(), Fail> {
+    let rows = [
+        // broken-caller
+        published(
+            BOTH,
+            "? A000290\nmul $0,$0\n? A016742\nmul $0,2\nseq $0,290\n? A000290\nmov $1,$0\nmin $1,9\nmul $0,$1\n",
+            "journal\njob 0 base 0 A000290 accepted 10\nmul $0,$0\njob 1 base 1 A016742 accepted 8\nmul $0,2\nseq $0,290\njob 2 base 2 A000290 broken 10 caller A016742 index 5 was 100 now 90\nmov $1,$0\nmin $1,9\nmul $0,$1\nstore\n= A000290 10\nmul $0,$0\n= A016742 8\nmul $0,2\nseq $0,290\nend jobs 3 version 2\n",
+        ),
+        // costlier-square
+        published(
+            SQUARES,
+            "? A000290\nmul $0,$0\n? A000290\nmov $1,$0\nmul $0,$1\n",
+            "journal\njob 0 base 0 A000290 accepted 10\nmul $0,$0\njob 1 base 1 A000290 costlier 0 was 1 now 2\nmov $1,$0\nmul $0,$1\nstore\n= A000290 10\nmul $0,$0\nend jobs 2 version 1\n",
+        ),
+        // callee-got-cheaper
+        published(
+            BOTH,
+            "? A000290\nmov $1,$0\nmul $0,$1\n? A016742\nmul $0,2\nseq $0,290\n? A000290\nmul $0,$0\n? A000290\nmov $1,$0\nmul $0,$1\n? A016742\nmov $1,$0\nmul $1,2\nmul $1,$1\nmov $0,$1\n",
+            "journal\njob 0 base 0 A000290 accepted 10\nmov $1,$0\nmul $0,$1\njob 1 base 1 A016742 accepted 8\nmul $0,2\nseq $0,290\njob 2 base 2 A000290 accepted 10\nmul $0,$0\njob 3 base 3 A000290 costlier 0 was 1 now 2\nmov $1,$0\nmul $0,$1\njob 4 base 3 A016742 costlier 0 was 3 now 4\nmov $1,$0\nmul $1,2\nmul $1,$1\nmov $0,$1\nstore\n= A000290 10\nmul $0,$0\n= A016742 8\nmul $0,2\nseq $0,290\nend jobs 5 version 3\n",
+        ),
+        // more-terms-checked
+        Row {
+            words: &["publish", "steps=56", "terms=t", "store=-", "cands=c"],
+            terms: "A000290 ,0,1,4,9,16,25,36,49,64,81,\nA016742 ,0,4,16,36,64,100,144,196,256,324,\n",
+            store: "",
+            candidates: "? A000290\nmov $1,$0\nlpb $1\nsub $1,1\nadd $2,$0\nlpe\nmov $0,$2\n? A016742\nmul $0,2\nseq $0,290\n? A000290\nmul $0,$0\n? A016742\nmul $0,2\nseq $0,290\n? A016742\nmul $0,2\nseq $0,290\n",
+            status: Status::Done,
+            output: "journal\njob 0 base 0 A000290 accepted 10\nmov $1,$0\nlpb $1\n  sub $1,1\n  add $2,$0\nlpe\nmov $0,$2\njob 1 base 1 A016742 accepted 9\nmul $0,2\nseq $0,290\njob 2 base 2 A000290 accepted 10\nmul $0,$0\njob 3 base 3 A016742 accepted 10\nmul $0,2\nseq $0,290\njob 4 base 4 A016742 no-gain\nmul $0,2\nseq $0,290\nstore\n= A000290 10\nmul $0,$0\n= A016742 10\nmul $0,2\nseq $0,290\nend jobs 5 version 4\n",
+        },
+        // cycle-refused
+        published(
+            BOTH,
+            "? A000290\nmul $0,$0\n? A016742\nmul $0,2\nseq $0,290\n? A000290\nseq $0,16742\n? A000290\nseq $0,290\n",
+            "journal\njob 0 base 0 A000290 accepted 10\nmul $0,$0\njob 1 base 1 A016742 accepted 8\nmul $0,2\nseq $0,290\njob 2 base 2 A000290 cycle A016742\nseq $0,16742\njob 3 base 2 A000290 cycle A000290\nseq $0,290\nstore\n= A000290 10\nmul $0,$0\n= A016742 8\nmul $0,2\nseq $0,290\nend jobs 4 version 2\n",
+        ),
+        // longer-square
+        published(
+            BOTH,
+            "? A000290\nmul $0,$0\n? A016742\nmul $0,2\nseq $0,290\n? A000290\nmul $0,$0\nadd $1,$0\n",
+            "journal\njob 0 base 0 A000290 accepted 10\nmul $0,$0\njob 1 base 1 A016742 accepted 8\nmul $0,2\nseq $0,290\njob 2 base 2 A000290 costlier 0 was 1 now 2\nmul $0,$0\nadd $1,$0\nstore\n= A000290 10\nmul $0,$0\n= A016742 8\nmul $0,2\nseq $0,290\nend jobs 3 version 2\n",
+        ),
+    ];
+    check_rows(&rt, rt.alloc(), &rows)
+}
+
+const NUMBERS: &str = "A000290 ,0,1,4,9,16,25,36,49,64,81,\nA001477 ,0,1,2,3,4,5,6,7,\n";
+
+#[test]
+fn demands_calls_of_undone_iterations(rt: HostRuntime) -> Result<(), Fail> {
+    let rows = [
+        published(
+            NUMBERS,
+            "? A000290\nmul $0,$0\n? A001477\nmov $1,-1\nlpb $2\nseq $1,290\nsub $2,1\nlpe\n? A000290\nmov $1,$0\nadd $1,1\npow $1,-1\nmul $0,$0\n",
+            "journal\njob 0 base 0 A000290 accepted 10\nmul $0,$0\njob 1 base 1 A001477 accepted 8\nmov $1,-1\nlpb $2\n  seq $1,290\n  sub $2,1\nlpe\njob 2 base 2 A000290 broken -1 caller A001477 index 0 was 1 now divide-by-zero\nmov $1,$0\nadd $1,1\npow $1,-1\nmul $0,$0\nstore\n= A000290 10\nmul $0,$0\n= A001477 8\nmov $1,-1\nlpb $2\n  seq $1,290\n  sub $2,1\nlpe\nend jobs 3 version 2\n",
+        ),
+        published(
+            NUMBERS,
+            "? A000290\nmul $0,$0\n? A001477\nmov $1,20\nlpb $2\nseq $1,290\nsub $2,1\nlpe\n? A000290\nmov $1,$0\nsub $1,20\npow $1,-1\nmul $0,$0\n",
+            "journal\njob 0 base 0 A000290 accepted 10\nmul $0,$0\njob 1 base 1 A001477 accepted 8\nmov $1,20\nlpb $2\n  seq $1,290\n  sub $2,1\nlpe\njob 2 base 2 A000290 broken 20 caller A001477 index 0 was 400 now divide-by-zero\nmov $1,$0\nsub $1,20\npow $1,-1\nmul $0,$0\nstore\n= A000290 10\nmul $0,$0\n= A001477 8\nmov $1,20\nlpb $2\n  seq $1,290\n  sub $2,1\nlpe\nend jobs 3 version 2\n",
+        ),
+    ];
+    check_rows(&rt, rt.alloc(), &rows)
+}
+
+const fn evaluated(
+    words: &'static [&'static str],
+    store: &'static str,
+    output: &'static str,
+) -> Row {
+    Row {
+        words,
+        terms: "",
+        store,
+        candidates: "",
+        status: Status::Done,
+        output,
+    }
+}
+
+const fn evaluated_terms(
+    words: &'static [&'static str],
+    terms: &'static str,
+    output: &'static str,
+) -> Row {
+    Row {
+        words,
+        terms,
+        store: "",
+        candidates: "",
+        status: Status::Done,
+        output,
+    }
+}
+
+const fn refused(
+    words: &'static [&'static str],
+    terms: &'static str,
+    store: &'static str,
+    status: Status,
+) -> Row {
+    Row {
+        words,
+        terms,
+        store,
+        candidates: "",
+        status,
+        output: "",
+    }
+}
+
+const CYCLE: &str = "= A000001 8\nseq $0,2\n= A000002 8\nseq $0,1\n";
+
+const REGION: &str = "= A000002 8\nmov $1,2\nlpb $0,2\nsub $1,1\nadd $2,1\nlpe\nmov $0,$2\n";
+
+#[test]
+fn evaluates(rt: HostRuntime) -> Result<(), Fail> {
+    let rows = [
+        // fibonacci
+        evaluated(
+            &["eval", "store=s", "name=A000045", "arg=0"],
+            FIBONACCI,
+            "value 0 steps 8\n",
+        ),
+        evaluated(
+            &["eval", "arg=7", "name=A000045", "store=s"],
+            FIBONACCI,
+            "value 13 steps 43\n",
+        ),
+        evaluated(
+            &["eval", "store=s", "name=A000045", "arg=7", "steps=43"],
+            FIBONACCI,
+            "value 13 steps 43\n",
+        ),
+        evaluated(
+            &["eval", "store=s", "name=A000045", "arg=7", "steps=42"],
+            FIBONACCI,
+            "out-of-steps\n",
+        ),
+        // region-of-two
+        evaluated(
+            &["eval", "store=s", "name=A000002", "arg=0"],
+            REGION,
+            "value 2 steps 15\n",
+        ),
+        // cyclic-store
+        evaluated(
+            &["eval", "store=s", "name=A000001", "arg=0"],
+            CYCLE,
+            "out-of-steps\n",
+        ),
+        refused(
+            &["eval", "store=s", "name=A000003", "arg=0"],
+            "",
+            CYCLE,
+            Status::Absent { name: 3 },
+        ),
+        refused(
+            &["eval", "store=s", "name=A000003", "arg=0"],
+            "",
+            FIBONACCI,
+            Status::Absent { name: 3 },
+        ),
+        refused(
+            &["eval", "store=-", "name=A000003", "arg=-5"],
+            "",
+            "",
+            Status::Absent { name: 3 },
+        ),
+        evaluated(
+            &["eval", "store=s", "name=A000001", "arg=-5"],
+            "= A000001 8\ndiv $0,0\n",
+            "fault divide-by-zero steps 1\n",
+        ),
+        evaluated(
+            &["eval", "store=s", "name=A000001", "arg=-5"],
+            "= A000001 8\nseq $0,7\n",
+            "fault missing steps 1\n",
+        ),
+    ];
+    check_rows(&rt, rt.alloc(), &rows)
+}
+
+const CHECK: &[&str] = &["check", "terms=t", "store=s"];
+
+const UNMET: &str = "= A000290 10\nmov $1,$0\nmin $1,8\nmul $0,$1\n";
+
+// The square's tenth term is not given.
+fn unmet(got: Num) -> Status {
+    Status::Unsound(Unsound::Unmet {
+        name: 290,
+        index: 9,
+        got: Got::Value(got),
+    })
+}
+
+#[test]
+fn checks(rt: HostRuntime) -> Result<(), Fail> {
+    let Some(got) = Num::new(72) else {
+        return Err(Fail::new("72 is a number"));
+    };
+    let rows = [
+        // line-forms
+        evaluated_terms(
+            &["check", "terms=t", "store=-"],
+            "# OEIS\r\n\r\nA000290 ,0,1,4,9,16,25,36,49,64,81,\r\nA000027 ,1,2,3,4,5,6,7,8,",
+            "rows 2\nskipped 0\nprograms 0\nsound\n",
+        ),
+        // wide-term
+        evaluated_terms(
+            &["check", "terms=t", "store=-"],
+            "A000290 ,0,1,4,9,16,25,36,170141183460469231731687303715884105728,64,81,\n",
+            "rows 0\nskipped 1\nprograms 0\nsound\n",
+        ),
+        refused(
+            CHECK,
+            "A000290 ,0,1x,4,",
+            "",
+            Status::BadTerms {
+                line: 1,
+                kind: TermsKind::BadTerm { column: 12 },
+            },
+        ),
+        refused(
+            CHECK,
+            "A000290 ,0,1",
+            "",
+            Status::BadTerms {
+                line: 1,
+                kind: TermsKind::NoComma,
+            },
+        ),
+        refused(
+            CHECK,
+            "A29 ,0,",
+            "",
+            Status::BadTerms {
+                line: 1,
+                kind: TermsKind::BadName,
+            },
+        ),
+        refused(
+            CHECK,
+            "A000290 ,0,1,4,9,16,25,36,49,64,81,\nA000290 ,0,1,4,9,16,25,36,49,64,81,",
+            "",
+            Status::BadTerms {
+                line: 2,
+                kind: TermsKind::Repeated { name: 290 },
+            },
+        ),
+        refused(
+            CHECK,
+            "",
+            "= A000290 7\n",
+            Status::BadStore {
+                line: 1,
+                kind: StoreKind::BadCount,
+            },
+        ),
+        // unsound-opening
+        refused(CHECK, SQUARES, UNMET, unmet(got)),
+        refused(
+            &["publish", "terms=t", "store=s", "cands=c"],
+            SQUARES,
+            UNMET,
+            unmet(got),
+        ),
+        refused(
+            CHECK,
+            SQUARES,
+            "= A000290 11\nmul $0,$0\n",
+            Status::Unsound(Unsound::Count {
+                name: 290,
+                checked: 11,
+                usable: 10,
+            }),
+        ),
+        refused(
+            CHECK,
+            SQUARES,
+            "= A000291 8\nmul $0,$0\n",
+            Status::Unsound(Unsound::NoRow { name: 291 }),
+        ),
+        // cyclic-store
+        refused(
+            CHECK,
+            "A000001 ,0,0,0,0,0,0,0,0,\nA000002 ,0,0,0,0,0,0,0,0,\n",
+            CYCLE,
+            Status::Unsound(Unsound::Cycle { through: 1 }),
+        ),
+    ];
+    check_rows(&rt, rt.alloc(), &rows)
+}
+
+// The status and the output of row square-published over this shelf, in writes of at most `take` bytes.
+fn publish_square<F: Shelf>(
+    alloc: Global,
+    shelf: &mut F,
+    take: usize,
+    empty_at: &[u64],
+) -> Result<(Status, MemorySink), AllocError> {
+    let words = words_of(alloc, PUBLISH)?;
+    let mut sink = MemorySink::new(
+        alloc,
+        10_000,
+        take,
+        Vec::new(alloc),
+        Vec::from_slice(alloc, empty_at)?,
+    )?;
+    let status = run_plain(alloc, &words, shelf, &mut sink);
+    Ok((status, sink))
+}
+
+const SQUARE_REPORT: &str =
+    "journal\njob 0 base 0 A000290 accepted 10\nmul $0,$0\nstore\n= A000290 10\nmul $0,$0\nend jobs 1 version 1\n";
+
+#[test]
+fn failing_ends(rt: HostRuntime) -> Result<(), Fail> {
+    let alloc = rt.alloc();
+    let row = published(SQUARES, SQUARE, SQUARE_REPORT);
+    let mut shelf = MemoryShelf::new(files(alloc, &row)?, Vec::from_slice(alloc, &[1])?);
+    let (status, sink) = publish_square(alloc, &mut shelf, 10_000, &[])?;
+    assert_eq!(rt;
+        status,
+        Status::ReadFault {
+            file: FileRole::Terms
+        }
+    );
+    assert_eq!(rt; sink.bytes().len(), 0);
+    let mut shelf = MemoryShelf::new(files(alloc, &row)?, Vec::new(alloc));
+    let (status, sink) = publish_square(alloc, &mut shelf, 16, &[2])?;
+    assert_eq!(rt; status, Status::WriteFault);
+    assert_eq!(rt;
+        sink.bytes(),
+        b"journal\njob 0 base 0 A000290 acc".as_slice()
+    );
+    let mut shelf = HonestShelf::new(files(alloc, &row)?);
+    let (status, sink) = publish_square(alloc, &mut shelf, 7, &[])?;
+    assert_eq!(rt; status, Status::Done);
+    assert_eq!(rt; sink.bytes(), SQUARE_REPORT.as_bytes());
+    Ok(())
+}
+
+// Words that are in no command's grammar.
+const NO_WORDS: [&[&str]; 19] = [
+    &[],
+    &[
+        "mine",
+        "terms=t",
+        "store=-",
+        "seed=1",
+        "jobs=1",
+        "workers=1",
+    ],
+    &["publish"],
+    &["publish", "terms=t", "store=-"],
+    &["publish", "terms=t", "store=-", "cands=c", "cands=c"],
+    &["publish", "terms=", "store=-", "cands=c"],
+    &["publish", "terms=t", "store=", "cands=c"],
+    &["publish", "terms=t", "store=-", "cands=c", "seed=1"],
+    &["publish", "terms=t", "store=-", "cands=c", "steps"],
+    &["publish", "terms=t", "store=-", "cands=c", "steps=0"],
+    &["publish", "terms=t", "store=-", "cands=c", "steps=010"],
+    &["publish", "terms=t", "store=-", "cands=c", "steps=10000001"],
+    &["publish", "terms=t", "store=-", "cands=c", "steps=+5"],
+    &["check", "terms=t", "store=-", "cands=c"],
+    &["eval", "store=-", "name=A000000", "arg=0"],
+    &["eval", "store=-", "name=A00045", "arg=0"],
+    &["eval", "store=-", "name=A000045", "arg=-0"],
+    &["eval", "store=-", "name=A000045", "arg=007"],
+    &[
+        "eval",
+        "store=-",
+        "name=A000045",
+        "arg=170141183460469231731687303715884105728",
+    ],
+];
+
+#[test]
+fn refuses_words(rt: HostRuntime) -> Result<(), Fail> {
+    let alloc = rt.alloc();
+    for words in NO_WORDS {
+        let words = words_of(alloc, words)?;
+        let mut shelf = HonestShelf::new(Vec::new(alloc));
+        let mut sink = MemorySink::new(alloc, 100, 100, Vec::new(alloc), Vec::new(alloc))?;
+        let status = run_plain(alloc, &words, &mut shelf, &mut sink);
+        assert_eq!(rt; status, Status::Usage);
+        assert_eq!(rt; sink.bytes().len(), 0);
+    }
+    Ok(())
+}
+
+#[test]
+fn tells_each_status(rt: HostRuntime) -> Result<(), Fail> {
+    let alloc = rt.alloc();
+    let got = match Num::new(72) {
+        Some(value) => Got::Value(value),
+        None => return Err(Fail::new("72 is a number")),
+    };
+    let rows = [
+        (Status::Usage, 2, "usage"),
+        (
+            Status::ReadFault {
+                file: FileRole::Terms,
+            },
+            3,
+            "cannot read terms",
+        ),
+        (
+            Status::ReadFault {
+                file: FileRole::Store,
+            },
+            3,
+            "cannot read store",
+        ),
+        (
+            Status::ReadFault {
+                file: FileRole::Candidates,
+            },
+            3,
+            "cannot read candidates",
+        ),
+        (Status::WriteFault, 4, "cannot write"),
+        (
+            Status::FileTooLarge {
+                file: FileRole::Terms,
+                size: 268_435_457,
+            },
+            5,
+            "terms too large at byte 268435457",
+        ),
+        (
+            Status::LineTooLong {
+                file: FileRole::Terms,
+                line: 3,
+            },
+            6,
+            "terms line 3 too long",
+        ),
+        (
+            Status::BadTerms {
+                line: 3,
+                kind: TermsKind::BadName,
+            },
+            7,
+            "terms line 3: bad-name",
+        ),
+        (
+            Status::BadTerms {
+                line: 3,
+                kind: TermsKind::NoComma,
+            },
+            7,
+            "terms line 3: no-comma",
+        ),
+        (
+            Status::BadTerms {
+                line: 3,
+                kind: TermsKind::BadTerm { column: 12 },
+            },
+            7,
+            "terms line 3: bad-term column 12",
+        ),
+        (
+            Status::BadTerms {
+                line: 3,
+                kind: TermsKind::Repeated { name: 290 },
+            },
+            7,
+            "terms line 3: repeated A000290",
+        ),
+        (
+            Status::BadStore {
+                line: 3,
+                kind: StoreKind::BadHeader,
+            },
+            8,
+            "store line 3: bad-header",
+        ),
+        (
+            Status::BadStore {
+                line: 3,
+                kind: StoreKind::OutOfOrder,
+            },
+            8,
+            "store line 3: out-of-order",
+        ),
+        (
+            Status::BadStore {
+                line: 3,
+                kind: StoreKind::Syntax(SyntaxKind::UnknownOp),
+            },
+            8,
+            "store line 3: unknown-op",
+        ),
+        (
+            Status::BadCandidates {
+                line: 3,
+                kind: StoreKind::TooMany,
+            },
+            9,
+            "candidates line 3: too-many",
+        ),
+        (
+            Status::Unsound(Unsound::Cycle { through: 1 }),
+            10,
+            "unsound: cycle through A000001",
+        ),
+        (
+            Status::Unsound(Unsound::NoRow { name: 290 }),
+            10,
+            "unsound: A000290 has no row",
+        ),
+        (
+            Status::Unsound(Unsound::Count {
+                name: 290,
+                checked: 11,
+                usable: 10,
+            }),
+            10,
+            "unsound: A000290 checked 11 usable 10",
+        ),
+        (
+            Status::Unsound(Unsound::Unmet {
+                name: 290,
+                index: 9,
+                got,
+            }),
+            10,
+            "unsound: A000290 index 9 got 72",
+        ),
+        (
+            Status::Unsound(Unsound::Unmet {
+                name: 290,
+                index: 9,
+                got: Got::OutOfSteps,
+            }),
+            10,
+            "unsound: A000290 index 9 got out-of-steps",
+        ),
+        (Status::Memory, 11, "out of memory"),
+        (Status::Absent { name: 3 }, 12, "no program A000003"),
+    ];
+    for (status, number, text) in rows {
+        let told = status.to_string(alloc)?;
+        assert_eq!(rt; told.as_str(), text);
+        assert_eq!(rt; status.number(), number);
+    }
+    assert_eq!(rt; Status::Done.number(), 0);
+    Ok(())
+}
+
+// A store in which A000001 adds 1, and each name from 2 to 20,000 calls the one before it.
+fn chain(alloc: Global) -> Result<String, AllocError> {
+    let mut text = String::from_str(alloc, "= A000001 8\nadd $0,1\n")?;
+    for callee in 1u32..20_000 {
+        let name = callee + 1;
+        write!(text, "= A{name:06} 8\nseq $0,{callee}\n")?;
+    }
+    Ok(text)
+}
+
+#[test]
+fn deep_chain(rt: HostRuntime) -> Result<(), Fail> {
+    let alloc = rt.alloc();
+    let text = chain(alloc)?;
+    for (steps, output) in [
+        ("steps=20000", "value 6 steps 20000\n"),
+        ("steps=19999", "out-of-steps\n"),
+    ] {
+        let words = words_of(alloc, &["eval", "store=s", "name=A020000", "arg=5", steps])?;
+        let mut files = Vec::new(alloc);
+        files.push(file(alloc, "s", text.as_str())?)?;
+        let mut shelf = HonestShelf::new(files);
+        let mut sink = MemorySink::new(alloc, 100, 100, Vec::new(alloc), Vec::new(alloc))?;
+        let status = run_plain(alloc, &words, &mut shelf, &mut sink);
+        assert_eq!(rt; status, Status::Done);
+        assert_eq!(rt; sink.bytes(), output.as_bytes());
+    }
+    Ok(())
+}

@@ -1,0 +1,278 @@
+//! The words of the command line.
+
+ghost use Rattle.std.specs.Prelude.{◌≡◌, ◌<◌, ◌≤◌, map, min, nat_eq, string_bytes, codes, bytes_eq, IfSome};
+ghost use Rattle.std.specs.List.{starts_with, list_any};
+ghost use Rattle.std.specs.Option.{option_map};
+ghost use Rattle.oeis_terms.specs.Numbers.{limit};
+ghost use Rattle.loda_mine.specs.Words.{value_in, values_of, optional, needed, has_only, decimal_read, path_read, store_path_read, decimal_between, limit_read, negative_read, positive_read, arg_read, path_of, store_path, limit_of, publish_of, check_of, eval_of, request_of, IsNamed};
+ghost use Rattle.loda_mine.specs.Requests.{asked};
+
+use checked_numbers::Num;
+use oeis_terms::magnitude;
+use program_store::name_of;
+
+/// What a command does.
+#[derive(Clone, Copy, Debug, PartialEq, Eq)]
+pub enum Task {
+    /// Publishes the candidates, in order, and writes the report.
+    Publish,
+    /// Checks whether the store is sound.
+    Check,
+    /// Runs a program of the store.
+    Eval { name: u32, arg: Num },
+}
+
+/// What is asked for: the task, the paths of its files, and the step limit of a run.
+#[derive(Clone, Copy, Debug, PartialEq, Eq)]
+pub struct Request<'a> {
+    pub task: Task,
+    pub terms: Option<&'a str>,
+    pub store: Option<&'a str>,
+    pub candidates: Option<&'a str>,
+    pub limit: u64,
+}
+
+// The step limit without `steps=`.
+const DEFAULT_LIMIT: u64 = 100_000;
+
+const GREATEST_LIMIT: u128 = 10_000_000;
+
+// The greatest absolute value of a number.
+const GREATEST: u128 = (1 << 127) - 1;
+
+// The value of a word with this key.
+fn value_in<'a>(key: &str, word: &'a str) -> Option<&'a str>
+    ensures { option_map (λ v. v.now) result ≡ value_in key.now word.now }
+{
+    word.strip_prefix(key)
+}
+
+// Whether a word has this key.
+fn has_key(key: &str, word: &str) -> bool
+    ensures { result ≡ starts_with nat_eq word.now key.now }
+{
+    word.starts_with(key)
+}
+
+// Whether a word has one of these keys.
+fn has_one_of(keys: &[&str], word: &str) -> bool
+    ensures { result ≡ list_any (λ key. starts_with nat_eq word.now key.now) keys.now }
+{
+    keys.iter().any(|key| has_key(key, word))
+}
+
+// Whether every word has one of these keys.
+fn has_only(keys: &[&str], words: &[String]) -> bool
+    ensures { result ≡ has_only (map (λ key. key.now) keys.now) (map string_bytes words.now) }
+{
+    words.iter().all(|word| has_one_of(keys, word.as_str()))
+}
+
+// The value of a key that may stand once.
+fn optional<'a>(key: &str, words: &'a [String]) -> Option<Option<&'a str>>
+    ensures { option_map (option_map (λ v. v.now)) result ≡ optional (values_of key.now (map string_bytes words.now)) }
+{
+    let mut found = None;
+    for word in words {
+        if let Some(value) = value_in(key, word.as_str()) {
+            if found.is_some() {
+                return None;
+            }
+            found = Some(value);
+        }
+    }
+    Some(found)
+}
+
+// The value of a key that has to stand once.
+fn needed<'a>(key: &str, words: &'a [String]) -> Option<&'a str>
+    ensures { option_map (λ v. v.now) result ≡ needed (values_of key.now (map string_bytes words.now)) }
+{
+    optional(key, words)?
+}
+
+// A decimal number without a sign or a leading 0, or 2^127 where it is no less.
+fn decimal(text: &[u8]) -> Option<u128>
+    ensures { result ≡ option_map (λ n. min n limit) (decimal_read text.now) }
+{
+    if text.len() > 1 && text[0] == b'0' {
+        return None;
+    }
+    magnitude(text)
+}
+
+// A decimal number, where it is from `least` to `most`.
+fn decimal_between(text: &[u8], least: u128, most: u128) -> Option<u128>
+    requires { most < limit }
+    ensures value { result ≡ decimal_between least most text.now }
+    ensures bounds { IfSome result (λ number. (least ≤ number) × (number ≤ most)) }
+{
+    let number = decimal(text)?;
+    if number < least || number > most {
+        return None;
+    }
+    Some(number)
+}
+
+// A step limit.
+fn limit_value(text: &str) -> Option<u64>
+    ensures value { result ≡ limit_read text.now }
+    ensures bounds { IfSome result (λ limit. (1 ≤ limit) × (limit ≤ 10000000)) }
+{
+    let limit = decimal_between(text.as_bytes(), 1, GREATEST_LIMIT)?;
+    Some(limit as u64)
+}
+
+// The argument that stands behind a `-`.
+fn negative_value(digits: &[u8]) -> Option<Num>
+    ensures { result ≡ negative_read digits.now }
+{
+    let magnitude = decimal_between(digits, 1, GREATEST)?;
+    Num::new(-(magnitude as i128))
+}
+
+// An argument without a sign.
+fn positive_value(digits: &[u8]) -> Option<Num>
+    ensures { result ≡ positive_read digits.now }
+{
+    let magnitude = decimal_between(digits, 0, GREATEST)?;
+    Num::new(magnitude as i128)
+}
+
+// An argument.
+fn arg_value(text: &str) -> Option<Num>
+    ensures { result ≡ arg_read text.now }
+{
+    match text.as_bytes() {
+        [b'-', digits @ ..] => negative_value(digits),
+        digits => positive_value(digits),
+    }
+}
+
+fn path_value(text: &str) -> Option<&str>
+    ensures { option_map (λ path. path.now) result ≡ path_read text.now }
+{
+    if text.is_empty() { None } else { Some(text) }
+}
+
+// The path of a store, or none for the empty one.
+fn store_path_value(text: &str) -> Option<Option<&str>>
+    ensures { option_map (option_map (λ path. path.now)) result ≡ store_path_read text.now }
+{
+    if text == "-" {
+        return Some(None);
+    }
+    Some(Some(path_value(text)?))
+}
+
+fn path_of<'a>(key: &str, words: &'a [String]) -> Option<&'a str>
+    ensures { option_map (λ path. path.now) result ≡ path_of key.now (map string_bytes words.now) }
+{
+    path_value(needed(key, words)?)
+}
+
+fn store_path(words: &[String]) -> Option<Option<&str>>
+    ensures { option_map (option_map (λ path. path.now)) result ≡ store_path (map string_bytes words.now) }
+{
+    store_path_value(needed("store=", words)?)
+}
+
+fn limit_of(words: &[String]) -> Option<u64>
+    ensures value { result ≡ limit_of (map string_bytes words.now) }
+    ensures bounds { IfSome result (λ limit. (1 ≤ limit) × (limit ≤ 10000000)) }
+{
+    match optional("steps=", words)? {
+        None => Some(DEFAULT_LIMIT),
+        Some(text) => limit_value(text),
+    }
+}
+
+// What `publish` asks for.
+#[tactic(auto, unfolding(crate::specs::Words::publish_of))]
+fn publish_of(words: &[String]) -> Option<Request<'_>>
+    ensures value { option_map asked result ≡ publish_of (map string_bytes words.now) }
+    ensures bounds { IfSome result (λ request. (1 ≤ request.limit) × (request.limit ≤ 10000000)) }
+    ensures named { IfSome result (λ request. IsNamed request.task) }
+{
+    if !has_only(&["terms=", "store=", "cands=", "steps="], words) {
+        return None;
+    }
+    let terms = path_of("terms=", words)?;
+    let store = store_path(words)?;
+    let candidates = path_of("cands=", words)?;
+    let limit = limit_of(words)?;
+    Some(Request {
+        task: Task::Publish,
+        terms: Some(terms),
+        store,
+        candidates: Some(candidates),
+        limit,
+    })
+}
+
+// What `check` asks for.
+#[tactic(auto, unfolding(crate::specs::Words::check_of))]
+fn check_of(words: &[String]) -> Option<Request<'_>>
+    ensures value { option_map asked result ≡ check_of (map string_bytes words.now) }
+    ensures bounds { IfSome result (λ request. (1 ≤ request.limit) × (request.limit ≤ 10000000)) }
+    ensures named { IfSome result (λ request. IsNamed request.task) }
+{
+    if !has_only(&["terms=", "store=", "steps="], words) {
+        return None;
+    }
+    let terms = path_of("terms=", words)?;
+    let store = store_path(words)?;
+    let limit = limit_of(words)?;
+    Some(Request {
+        task: Task::Check,
+        terms: Some(terms),
+        store,
+        candidates: None,
+        limit,
+    })
+}
+
+// What `eval` asks for.
+#[tactic(auto, unfolding(crate::specs::Words::eval_of))]
+fn eval_of(words: &[String]) -> Option<Request<'_>>
+    ensures value { option_map asked result ≡ eval_of (map string_bytes words.now) }
+    ensures bounds { IfSome result (λ request. (1 ≤ request.limit) × (request.limit ≤ 10000000)) }
+    ensures named { IfSome result (λ request. IsNamed request.task) }
+{
+    if !has_only(&["store=", "name=", "arg=", "steps="], words) {
+        return None;
+    }
+    let store = store_path(words)?;
+    let name = name_of(needed("name=", words)?.as_bytes())?;
+    let arg = arg_value(needed("arg=", words)?)?;
+    let limit = limit_of(words)?;
+    Some(Request {
+        task: Task::Eval { name, arg },
+        terms: None,
+        store,
+        candidates: None,
+        limit,
+    })
+}
+
+/// What is asked for, if the words are in the grammar.
+#[tactic(auto, unfolding(crate::specs::Words::request_of))]
+pub fn request_of(words: &[String]) -> Option<Request<'_>>
+    ensures value { option_map asked result ≡ request_of (map string_bytes words.now) }
+    ensures bounds { IfSome result (λ request. (1 ≤ request.limit) × (request.limit ≤ 10000000)) }
+    ensures named { IfSome result (λ request. IsNamed request.task) }
+{
+    let [command, words @ ..] = words else {
+        return None;
+    };
+    if command.as_str() == "publish" {
+        return publish_of(words);
+    }
+    if command.as_str() == "check" {
+        return check_of(words);
+    }
+    if command.as_str() == "eval" {
+        return eval_of(words);
+    }
+    None
+}
