@@ -10,7 +10,8 @@ use program_store::{Proposal, View};
 use seq_calls::{NodeRun, evaluate_alone};
 use std::alloc::{AllocError, Global};
 
-// The changes after the runs of the proposed name among the frames of a checked run.
+// The changes after the runs of the proposed name among the frames of a checked run. Its last frame is the run itself,
+// which relies on its argument where it is a run of that name.
 fn after_frames<V: View>(
     alloc: Global,
     view: &V,
@@ -54,7 +55,7 @@ fn after_run<V: View>(
     after_frames(alloc, view, proposal, limit, by, frames, changes)
 }
 
-// At how many arguments the program of a name is checked: none where it is not published.
+/// At how many arguments the program of a name is checked: none where it is not published.
 pub fn checked_count<V: View>(view: &V, name: u32) -> u32
     ensures { result ≡ checked_at (V.store view.now) name }
 {
