@@ -1,10 +1,10 @@
 //! Sequences of proposals, each judged, and published where it is accepted.
 
-ghost use Rattle.std.specs.Prelude.{◌≤◌, IsTrue};
+ghost use Rattle.std.specs.Prelude.{◌≤◌, IsTrue, IfOk};
 ghost use Rattle.oeis_terms.specs.Table.{IsBounded, row_of};
 ghost use Rattle.judge.specs.Sound.{Sound};
 
-use crate::{Answer, Got, check_store, check_terms, judge};
+use crate::{Answer, CheckError, Got, check_store, check_terms, judge};
 use loda_io::{File, MemoryShelf};
 use oeis_terms::{TermTable, read_terms};
 use program_store::{Proposal, Published, Store, parse_candidates};
@@ -149,12 +149,16 @@ fn shelf_of(alloc: Global, text: &str) -> Result<MemoryShelf, AllocError> {
 }
 
 // Whether a store is found sound.
-fn is_sound(alloc: Global, store: &Store, terms: &TermTable, limit: u64) -> bool
+fn is_sound(alloc: Global, store: &Store, terms: &TermTable, limit: u64) -> Result<bool, AllocError>
     requires limit { limit ≤ 10000000 }
     requires bounded { IsBounded terms.now }
-    ensures { IsTrue result → Sound store.now (row_of terms.now) limit }
+    ensures { IfOk result (λ sound. IsTrue sound → Sound store.now (row_of terms.now) limit) }
 {
-    check_store(alloc, store, terms, limit).is_ok()
+    match check_store(alloc, store, terms, limit) {
+        Ok(()) => Ok(true),
+        Err(CheckError::Memory) => Err(AllocError),
+        Err(CheckError::Unsound(_)) => Ok(false),
+    }
 }
 
 // The answer to a proposal, in a store that is found sound.
@@ -168,7 +172,7 @@ fn answer_in(
     requires limit { limit ≤ 10000000 }
     requires bounded { IsBounded terms.now }
 {
-    if !is_sound(alloc, store, terms, limit) {
+    if !is_sound(alloc, store, terms, limit)? {
         return Ok(Told::Other);
     }
     match judge(alloc, store, terms, limit, proposal) {
@@ -187,7 +191,9 @@ fn publish(store: &mut Store, proposal: &Proposal, told: &Told) -> Result<(), Al
     let name = copy.name;
     let program = copy.program;
     if 1 <= name && name <= 999_999 {
-        let _ = store.put(name, Published { program, checked });
+        if store.put(name, Published { program, checked }).is_err() {
+            return Err(AllocError);
+        }
     }
     Ok(())
 }
