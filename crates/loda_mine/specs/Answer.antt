@@ -14,8 +14,12 @@ use Rattle.program_store.specs.Files as store_file
 use Rattle.program_store.specs.Store as stores
 use Rattle.program_store.specs.Store.{published_at, programs_of}
 use Rattle.seq_calls.specs.Frames.{told}
+use Rattle.judge.specs.declared.opening.CheckError.{CheckError}
+use Rattle.judge.specs.declared.opening.CheckError.TheVariants as check_errors
 use Rattle.judge.specs.Sound.{Sound, IsUnsound}
 use Rattle.publish_desk.specs.declared.charter.Source.TheVariants.{Listed}
+use Rattle.publish_desk.specs.declared.desk.OpenError.{OpenError}
+use Rattle.publish_desk.specs.declared.desk.OpenError.TheVariants as open_errors
 use Rattle.publish_desk.specs.Desk.{Desk, IsKept, history}
 use Rattle.publish_desk.specs.History.{IsInOrder}
 use Rattle.publish_desk.specs.Report.{report}
@@ -79,6 +83,16 @@ unfoldable pub contents_of : Found → Result Contents Status
 contents_of found =
     terms_of found.terms >>= λ terms. store_of found.store >>= λ store. candidates_of found.candidates >>= λ candidates.
     Ok (record { terms = terms; store = store; candidates = candidates })
+
+-- ---- the errors of the layers below
+
+abbrev pub check_status : CheckError → Status
+check_status (check_errors.Unsound reason) = statuses.Unsound reason
+check_status check_errors.Memory = statuses.Memory
+
+abbrev pub open_status : OpenError → Status
+open_status (open_errors.Unsound reason) = statuses.Unsound reason
+open_status open_errors.Memory = statuses.Memory
 
 -- ---- the commands
 

@@ -14,7 +14,7 @@ use crate::status::Status;
 use crate::words::Task;
 use checked_numbers::{Num, write_num};
 use itoa::Buffer;
-use judge::{CheckError, check_store};
+use judge::check_store;
 use loda_semantics::FaultKind;
 use program_store::{Store, View};
 use seq_calls::{Outcome, evaluate_alone};
@@ -54,16 +54,10 @@ pub fn check(alloc: Global, contents: &Contents, limit: u64) -> Result<Vec<u8>, 
     requires bounded { IsBounded contents.now.terms }
     ensures { IsOutput Task.Check limit contents.now (bytes_in result) }
 {
-    match check_store(alloc, &contents.store, &contents.terms, limit) {
-        Ok(()) => {}
-        Err(CheckError::Unsound(reason)) => return Err(Status::Unsound(reason)),
-        Err(CheckError::Memory) => return Err(Status::Memory),
-    }
+    check_store(alloc, &contents.store, &contents.terms, limit)?;
     let mut output = Vec::new(alloc);
-    match write_sound(&mut output, contents) {
-        Ok(()) => Ok(output),
-        Err(_) => Err(Status::Memory),
-    }
+    write_sound(&mut output, contents)?;
+    Ok(output)
 }
 
 // Adds a fault's word.
@@ -127,8 +121,6 @@ pub fn eval(
     if contents.store.published(name).is_none() {
         return Err(Status::Absent { name });
     }
-    match outcome_of(alloc, &contents.store, name, arg, limit) {
-        Ok(output) => Ok(output),
-        Err(_) => Err(Status::Memory),
-    }
+    let output = outcome_of(alloc, &contents.store, name, arg, limit)?;
+    Ok(output)
 }

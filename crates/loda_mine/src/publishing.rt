@@ -12,7 +12,7 @@ ghost use Rattle.loda_mine.specs.Answer.{Refuses, IsOutput, bytes_in};
 use crate::files::Contents;
 use crate::status::Status;
 use crate::words::Task;
-use publish_desk::{Desk, OpenError, Origin, write_report};
+use publish_desk::{Desk, Origin, write_report};
 use std::alloc::{AllocError, Global};
 use std::sync::Arc;
 
@@ -26,24 +26,10 @@ fn open_desk(alloc: Global, contents: Contents, limit: u64) -> Result<Desk, Stat
     ensures refused { (s : status) → result ≡ Err s → Refuses Task.Publish limit contents s }
 {
     let jobs = contents.candidates.len();
-    let Ok(terms) = Arc::new(alloc, contents.terms) else {
-        return Err(Status::Memory);
-    };
-    let Ok(candidates) = Arc::new(alloc, contents.candidates) else {
-        return Err(Status::Memory);
-    };
-    match Desk::start(
-        alloc,
-        contents.store,
-        terms,
-        limit,
-        Origin::Listed(candidates),
-        jobs,
-    ) {
-        Ok(desk) => Ok(desk),
-        Err(OpenError::Unsound(reason)) => Err(Status::Unsound(reason)),
-        Err(OpenError::Memory) => Err(Status::Memory),
-    }
+    let terms = Arc::new(alloc, contents.terms)?;
+    let origin = Origin::Listed(Arc::new(alloc, contents.candidates)?);
+    let desk = Desk::start(alloc, contents.store, terms, limit, origin, jobs)?;
+    Ok(desk)
 }
 
 // Decides the next job.
@@ -78,6 +64,7 @@ fn report_of(alloc: Global, desk: &Desk) -> Result<Vec<u8>, AllocError>
     ensures kept { IsKept desk.now }
 {
     let mut output = Vec::new(alloc);
+    // What is kept of each desk.
     let _ = desk.version();
     write_report(desk, &mut output)?;
     Ok(output)
@@ -90,11 +77,7 @@ pub fn publish(alloc: Global, contents: Contents, limit: u64) -> Result<Vec<u8>,
     ensures { IsOutput Task.Publish limit contents (bytes_in result) }
 {
     let mut desk = open_desk(alloc, contents, limit)?;
-    let Ok(()) = decide_all(alloc, &mut desk) else {
-        return Err(Status::Memory);
-    };
-    match report_of(alloc, &desk) {
-        Ok(output) => Ok(output),
-        Err(_) => Err(Status::Memory),
-    }
+    decide_all(alloc, &mut desk)?;
+    let output = report_of(alloc, &desk)?;
+    Ok(output)
 }

@@ -4,10 +4,12 @@ ghost use Rattle.std.specs.Prelude.{◌≡◌};
 ghost use Rattle.loda_mine.specs.Answer.{status_of};
 
 use crate::text::Reason;
-use judge::Unsound;
+use judge::{CheckError, Unsound};
 use loda_io::ReadError;
 use oeis_terms::TermsKind;
 use program_store::StoreKind;
+use publish_desk::OpenError;
+use std::alloc::{AllocError, AllocFailed};
 use thiserror::Error;
 
 /// A file of a command.
@@ -60,6 +62,52 @@ pub enum Status {
     /// Memory ran out.
     #[error("out of memory")]
     Memory,
+}
+
+impl From<AllocError> for Status {
+    ghost use Rattle.loda_mine.specs.declared.status.Status.TheVariants.{Memory};
+
+    ghost from_gives = { λ _ given. given ≡ Memory };
+
+    fn from(_error: AllocError) -> Status {
+        Status::Memory
+    }
+}
+
+impl<T: Drop> From<AllocFailed<T>> for Status {
+    ghost use Rattle.loda_mine.specs.declared.status.Status.TheVariants.{Memory};
+
+    ghost from_gives = { λ _ given. given ≡ Memory };
+
+    fn from(_error: AllocFailed<T>) -> Status {
+        Status::Memory
+    }
+}
+
+impl From<CheckError> for Status {
+    ghost use Rattle.loda_mine.specs.Answer.{check_status};
+
+    ghost from_gives = { λ error given. given ≡ check_status error };
+
+    fn from(error: CheckError) -> Status {
+        match error {
+            CheckError::Unsound(reason) => Status::Unsound(reason),
+            CheckError::Memory => Status::Memory,
+        }
+    }
+}
+
+impl From<OpenError> for Status {
+    ghost use Rattle.loda_mine.specs.Answer.{open_status};
+
+    ghost from_gives = { λ error given. given ≡ open_status error };
+
+    fn from(error: OpenError) -> Status {
+        match error {
+            OpenError::Unsound(reason) => Status::Unsound(reason),
+            OpenError::Memory => Status::Memory,
+        }
+    }
 }
 
 /// The status for a file that was not read.
