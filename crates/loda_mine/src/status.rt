@@ -23,12 +23,9 @@ pub enum FileRole {
     Candidates,
 }
 
-/// How a run ends. Lines, columns and sizes count from 1.
+/// How a run ends, in the order in which it is tested. Lines, columns and sizes count from 1.
 #[derive(Clone, Copy, Debug, PartialEq, Eq, Error)]
 pub enum Status {
-    /// All inputs were read to their ends, and the whole output was written.
-    #[error("done")]
-    Done,
     /// The words are in no command's grammar.
     #[error("usage")]
     Usage,
@@ -62,6 +59,9 @@ pub enum Status {
     /// Memory ran out.
     #[error("out of memory")]
     Memory,
+    /// All inputs were read to their ends, and the whole output was written.
+    #[error("done")]
+    Done,
 }
 
 impl From<AllocError> for Status {
@@ -126,7 +126,6 @@ impl Status {
     /// The number that the program ends with.
     pub fn number(self) -> u8 {
         match self {
-            Status::Done => 0,
             Status::Usage => 2,
             Status::ReadFault { .. } => 3,
             Status::WriteFault => 4,
@@ -138,6 +137,7 @@ impl Status {
             Status::Unsound(_) => 10,
             Status::Memory => 11,
             Status::Absent { .. } => 12,
+            Status::Done => 0,
         }
     }
 }

@@ -60,21 +60,41 @@ fn files(alloc: Global, row: &Row) -> Result<Vec<File>, AllocError> {
     Ok(files)
 }
 
-fn check_rows(rt: &impl Abort, alloc: Global, rows: &[Row]) -> Result<(), Fail> {
-    for row in rows {
-        let words = words_of(alloc, row.words)?;
-        let mut shelf = MemoryShelf::new(files(alloc, row)?, Vec::new(alloc));
-        let mut sink = MemorySink::new(alloc, 10_000, 10_000, Vec::new(alloc), Vec::new(alloc))?;
-        let status = run_plain(alloc, &words, &mut shelf, &mut sink);
-        assert_eq!(rt; status, row.status);
-        assert_eq!(rt; sink.bytes(), row.output.as_bytes());
+fn check_row(rt: &impl Abort, alloc: Global, row: &Row) -> Result<(), Fail> {
+    let words = words_of(alloc, row.words)?;
+    let mut shelf = MemoryShelf::new(files(alloc, row)?, Vec::new(alloc));
+    let mut sink = MemorySink::new(alloc, 10_000, 10_000, Vec::new(alloc), Vec::new(alloc))?;
+    let status = run_plain(alloc, &words, &mut shelf, &mut sink);
+    assert_eq!(rt; status, row.status);
+    assert_eq!(rt; sink.bytes(), row.output.as_bytes());
+    Ok(())
+}
+
+fn check_journals(
+    rt: &impl Abort,
+    alloc: Global,
+    journals: &[(&'static str, &'static str, &'static str)],
+) -> Result<(), Fail> {
+    for (terms, candidates, report) in journals {
+        check_row(rt, alloc, &published(terms, candidates, report))?;
+    }
+    Ok(())
+}
+
+fn check_refusals(
+    rt: &impl Abort,
+    alloc: Global,
+    refusals: &[(&'static [&'static str], &'static str, &'static str, Status)],
+) -> Result<(), Fail> {
+    for (words, terms, store, status) in refusals {
+        check_row(rt, alloc, &refused(words, terms, store, *status))?;
     }
     Ok(())
 }
 
 const PUBLISH: &[&str] = &["publish", "terms=t", "store=-", "cands=c"];
 
-const fn published(terms: &'static str, candidates: &'static str, output: &'static str) -> Row {
+fn published(terms: &'static str, candidates: &'static str, output: &'static str) -> Row {
     Row {
         words: PUBLISH,
         terms,
@@ -85,124 +105,180 @@ const fn published(terms: &'static str, candidates: &'static str, output: &'stat
     }
 }
 
+const NEW_NAMES: [(&str, &str, &str); 9] = [
+    // square-published
+    (
+        SQUARES,
+        SQUARE,
+        "journal\njob 0 base 0 A000290 accepted 10\nmul $0,$0\nstore\n= A000290 10\nmul $0,$0\nend jobs 1 version 1\n",
+    ),
+    // wrong-at-one
+    (
+        SQUARES,
+        "? A000290\nadd $0,$0\n",
+        "journal\njob 0 base 0 A000290 wrong 1 got 2\nadd $0,$0\nstore\nend jobs 1 version 0\n",
+    ),
+    // unlisted-name
+    (
+        SQUARES,
+        "? A000027\nadd $0,1\n",
+        "journal\njob 0 base 0 A000027 unlisted\nadd $0,1\nstore\nend jobs 1 version 0\n",
+    ),
+    // empty-inputs
+    ("", "", "journal\nstore\nend jobs 0 version 0\n"),
+    // wide-term
+    (
+        "A000290 ,0,1,4,9,16,25,36,49,64,170141183460469231731687303715884105728,100,\n",
+        SQUARE,
+        "journal\njob 0 base 0 A000290 accepted 9\nmul $0,$0\nstore\n= A000290 9\nmul $0,$0\nend jobs 1 version 1\n",
+    ),
+    (
+        "A000290 ,0,1,4,9,16,25,36,170141183460469231731687303715884105728,64,100,\n",
+        SQUARE,
+        "journal\njob 0 base 0 A000290 unlisted\nmul $0,$0\nstore\nend jobs 1 version 0\n",
+    ),
+    // caller-of-square
+    (
+        BOTH,
+        "? A000290\nmul $0,$0\n? A016742\nmul $0,2\nseq $0,290\n",
+        "journal\njob 0 base 0 A000290 accepted 10\nmul $0,$0\njob 1 base 1 A016742 accepted 8\nmul $0,2\nseq $0,290\nstore\n= A000290 10\nmul $0,$0\n= A016742 8\nmul $0,2\nseq $0,290\nend jobs 2 version 2\n",
+    ),
+    // missing-callee
+    (
+        BOTH,
+        "? A016742\nmul $0,2\nseq $0,290\n",
+        "journal\njob 0 base 0 A016742 wrong 0 got missing\nmul $0,2\nseq $0,290\nstore\nend jobs 1 version 0\n",
+    ),
+    // self-call
+    (
+        BOTH,
+        "? A000290\nseq $0,290\n",
+        "journal\njob 0 base 0 A000290 cycle A000290\nseq $0,290\nstore\nend jobs 1 version 0\n",
+    ),
+];
+
 #[test]
 fn publishes_new_names(rt: HostRuntime) -> Result<(), Fail> {
-    let rows = [
-        // square-published
-        published(
-            SQUARES,
-            SQUARE,
-            "journal\njob 0 base 0 A000290 accepted 10\nmul $0,$0\nstore\n= A000290 10\nmul $0,$0\nend jobs 1 version 1\n",
-        ),
-        // wrong-at-one
-        published(
-            SQUARES,
-            "? A000290\nadd $0,$0\n",
-            "journal\njob 0 base 0 A000290 wrong 1 got 2\nadd $0,$0\nstore\nend jobs 1 version 0\n",
-        ),
-        // unlisted-name
-        published(
-            SQUARES,
-            "? A000027\nadd $0,1\n",
-            "journal\njob 0 base 0 A000027 unlisted\nadd $0,1\nstore\nend jobs 1 version 0\n",
-        ),
-        // empty-inputs
-        published("", "", "journal\nstore\nend jobs 0 version 0\n"),
-        // caller-of-square
-        published(
-            BOTH,
-            "? A000290\nmul $0,$0\n? A016742\nmul $0,2\nseq $0,290\n",
-            "journal\njob 0 base 0 A000290 accepted 10\nmul $0,$0\njob 1 base 1 A016742 accepted 8\nmul $0,2\nseq $0,290\nstore\n= A000290 10\nmul $0,$0\n= A016742 8\nmul $0,2\nseq $0,290\nend jobs 2 version 2\n",
-        ),
-        // missing-callee
-        published(
-            BOTH,
-            "? A016742\nmul $0,2\nseq $0,290\n",
-            "journal\njob 0 base 0 A016742 wrong 0 got missing\nmul $0,2\nseq $0,290\nstore\nend jobs 1 version 0\n",
-        ),
-        // self-call
-        published(
-            BOTH,
-            "? A000290\nseq $0,290\n",
-            "journal\njob 0 base 0 A000290 cycle A000290\nseq $0,290\nstore\nend jobs 1 version 0\n",
-        ),
-    ];
-    check_rows(&rt, rt.alloc(), &rows)
+    check_journals(&rt, rt.alloc(), &NEW_NAMES)
 }
+
+// Terms, candidates, and the report.
+const REPLACEMENTS: [(&str, &str, &str); 5] = [
+    // broken-caller
+    (
+        BOTH,
+        "? A000290\nmul $0,$0\n? A016742\nmul $0,2\nseq $0,290\n? A000290\nmov $1,$0\nmin $1,9\nmul $0,$1\n",
+        "journal\njob 0 base 0 A000290 accepted 10\nmul $0,$0\njob 1 base 1 A016742 accepted 8\nmul $0,2\nseq $0,290\njob 2 base 2 A000290 broken 10 caller A016742 index 5 was 100 now 90\nmov $1,$0\nmin $1,9\nmul $0,$1\nstore\n= A000290 10\nmul $0,$0\n= A016742 8\nmul $0,2\nseq $0,290\nend jobs 3 version 2\n",
+    ),
+    // costlier-square
+    (
+        SQUARES,
+        "? A000290\nmul $0,$0\n? A000290\nmov $1,$0\nmul $0,$1\n",
+        "journal\njob 0 base 0 A000290 accepted 10\nmul $0,$0\njob 1 base 1 A000290 costlier 0 was 1 now 2\nmov $1,$0\nmul $0,$1\nstore\n= A000290 10\nmul $0,$0\nend jobs 2 version 1\n",
+    ),
+    // callee-got-cheaper
+    (
+        BOTH,
+        "? A000290\nmov $1,$0\nmul $0,$1\n? A016742\nmul $0,2\nseq $0,290\n? A000290\nmul $0,$0\n? A000290\nmov $1,$0\nmul $0,$1\n? A016742\nmov $1,$0\nmul $1,2\nmul $1,$1\nmov $0,$1\n",
+        "journal\njob 0 base 0 A000290 accepted 10\nmov $1,$0\nmul $0,$1\njob 1 base 1 A016742 accepted 8\nmul $0,2\nseq $0,290\njob 2 base 2 A000290 accepted 10\nmul $0,$0\njob 3 base 3 A000290 costlier 0 was 1 now 2\nmov $1,$0\nmul $0,$1\njob 4 base 3 A016742 costlier 0 was 3 now 4\nmov $1,$0\nmul $1,2\nmul $1,$1\nmov $0,$1\nstore\n= A000290 10\nmul $0,$0\n= A016742 8\nmul $0,2\nseq $0,290\nend jobs 5 version 3\n",
+    ),
+    // cycle-refused
+    (
+        BOTH,
+        "? A000290\nmul $0,$0\n? A016742\nmul $0,2\nseq $0,290\n? A000290\nseq $0,16742\n? A000290\nseq $0,290\n",
+        "journal\njob 0 base 0 A000290 accepted 10\nmul $0,$0\njob 1 base 1 A016742 accepted 8\nmul $0,2\nseq $0,290\njob 2 base 2 A000290 cycle A016742\nseq $0,16742\njob 3 base 2 A000290 cycle A000290\nseq $0,290\nstore\n= A000290 10\nmul $0,$0\n= A016742 8\nmul $0,2\nseq $0,290\nend jobs 4 version 2\n",
+    ),
+    // longer-square
+    (
+        BOTH,
+        "? A000290\nmul $0,$0\n? A016742\nmul $0,2\nseq $0,290\n? A000290\nmul $0,$0\nadd $1,$0\n",
+        "journal\njob 0 base 0 A000290 accepted 10\nmul $0,$0\njob 1 base 1 A016742 accepted 8\nmul $0,2\nseq $0,290\njob 2 base 2 A000290 costlier 0 was 1 now 2\nmul $0,$0\nadd $1,$0\nstore\n= A000290 10\nmul $0,$0\n= A016742 8\nmul $0,2\nseq $0,290\nend jobs 3 version 2\n",
+    ),
+];
 
 #[test]
 fn judges_replacements(rt: HostRuntime) -> Result<(), Fail> {
-    let rows = [
-        // broken-caller
-        published(
-            BOTH,
-            "? A000290\nmul $0,$0\n? A016742\nmul $0,2\nseq $0,290\n? A000290\nmov $1,$0\nmin $1,9\nmul $0,$1\n",
-            "journal\njob 0 base 0 A000290 accepted 10\nmul $0,$0\njob 1 base 1 A016742 accepted 8\nmul $0,2\nseq $0,290\njob 2 base 2 A000290 broken 10 caller A016742 index 5 was 100 now 90\nmov $1,$0\nmin $1,9\nmul $0,$1\nstore\n= A000290 10\nmul $0,$0\n= A016742 8\nmul $0,2\nseq $0,290\nend jobs 3 version 2\n",
-        ),
-        // costlier-square
-        published(
-            SQUARES,
-            "? A000290\nmul $0,$0\n? A000290\nmov $1,$0\nmul $0,$1\n",
-            "journal\njob 0 base 0 A000290 accepted 10\nmul $0,$0\njob 1 base 1 A000290 costlier 0 was 1 now 2\nmov $1,$0\nmul $0,$1\nstore\n= A000290 10\nmul $0,$0\nend jobs 2 version 1\n",
-        ),
-        // callee-got-cheaper
-        published(
-            BOTH,
-            "? A000290\nmov $1,$0\nmul $0,$1\n? A016742\nmul $0,2\nseq $0,290\n? A000290\nmul $0,$0\n? A000290\nmov $1,$0\nmul $0,$1\n? A016742\nmov $1,$0\nmul $1,2\nmul $1,$1\nmov $0,$1\n",
-            "journal\njob 0 base 0 A000290 accepted 10\nmov $1,$0\nmul $0,$1\njob 1 base 1 A016742 accepted 8\nmul $0,2\nseq $0,290\njob 2 base 2 A000290 accepted 10\nmul $0,$0\njob 3 base 3 A000290 costlier 0 was 1 now 2\nmov $1,$0\nmul $0,$1\njob 4 base 3 A016742 costlier 0 was 3 now 4\nmov $1,$0\nmul $1,2\nmul $1,$1\nmov $0,$1\nstore\n= A000290 10\nmul $0,$0\n= A016742 8\nmul $0,2\nseq $0,290\nend jobs 5 version 3\n",
-        ),
-        // more-terms-checked
-        Row {
-            words: &["publish", "steps=56", "terms=t", "store=-", "cands=c"],
-            terms: "A000290 ,0,1,4,9,16,25,36,49,64,81,\nA016742 ,0,4,16,36,64,100,144,196,256,324,\n",
-            store: "",
-            candidates: "? A000290\nmov $1,$0\nlpb $1\nsub $1,1\nadd $2,$0\nlpe\nmov $0,$2\n? A016742\nmul $0,2\nseq $0,290\n? A000290\nmul $0,$0\n? A016742\nmul $0,2\nseq $0,290\n? A016742\nmul $0,2\nseq $0,290\n",
-            status: Status::Done,
-            output: "journal\njob 0 base 0 A000290 accepted 10\nmov $1,$0\nlpb $1\n  sub $1,1\n  add $2,$0\nlpe\nmov $0,$2\njob 1 base 1 A016742 accepted 9\nmul $0,2\nseq $0,290\njob 2 base 2 A000290 accepted 10\nmul $0,$0\njob 3 base 3 A016742 accepted 10\nmul $0,2\nseq $0,290\njob 4 base 4 A016742 no-gain\nmul $0,2\nseq $0,290\nstore\n= A000290 10\nmul $0,$0\n= A016742 10\nmul $0,2\nseq $0,290\nend jobs 5 version 4\n",
-        },
-        // cycle-refused
-        published(
-            BOTH,
-            "? A000290\nmul $0,$0\n? A016742\nmul $0,2\nseq $0,290\n? A000290\nseq $0,16742\n? A000290\nseq $0,290\n",
-            "journal\njob 0 base 0 A000290 accepted 10\nmul $0,$0\njob 1 base 1 A016742 accepted 8\nmul $0,2\nseq $0,290\njob 2 base 2 A000290 cycle A016742\nseq $0,16742\njob 3 base 2 A000290 cycle A000290\nseq $0,290\nstore\n= A000290 10\nmul $0,$0\n= A016742 8\nmul $0,2\nseq $0,290\nend jobs 4 version 2\n",
-        ),
-        // longer-square
-        published(
-            BOTH,
-            "? A000290\nmul $0,$0\n? A016742\nmul $0,2\nseq $0,290\n? A000290\nmul $0,$0\nadd $1,$0\n",
-            "journal\njob 0 base 0 A000290 accepted 10\nmul $0,$0\njob 1 base 1 A016742 accepted 8\nmul $0,2\nseq $0,290\njob 2 base 2 A000290 costlier 0 was 1 now 2\nmul $0,$0\nadd $1,$0\nstore\n= A000290 10\nmul $0,$0\n= A016742 8\nmul $0,2\nseq $0,290\nend jobs 3 version 2\n",
-        ),
-    ];
-    check_rows(&rt, rt.alloc(), &rows)
+    check_journals(&rt, rt.alloc(), &REPLACEMENTS)
+}
+
+// more-terms-checked
+// Rows with words of their own.
+const OTHER_WORDS: [Row; 4] = [
+    // more-terms-checked
+    Row {
+        words: &["publish", "steps=56", "terms=t", "store=-", "cands=c"],
+        terms: "A000290 ,0,1,4,9,16,25,36,49,64,81,\nA016742 ,0,4,16,36,64,100,144,196,256,324,\n",
+        store: "",
+        candidates: "? A000290\nmov $1,$0\nlpb $1\nsub $1,1\nadd $2,$0\nlpe\nmov $0,$2\n? A016742\nmul $0,2\nseq $0,290\n? A000290\nmul $0,$0\n? A016742\nmul $0,2\nseq $0,290\n? A016742\nmul $0,2\nseq $0,290\n",
+        status: Status::Done,
+        output: "journal\njob 0 base 0 A000290 accepted 10\nmov $1,$0\nlpb $1\n  sub $1,1\n  add $2,$0\nlpe\nmov $0,$2\njob 1 base 1 A016742 accepted 9\nmul $0,2\nseq $0,290\njob 2 base 2 A000290 accepted 10\nmul $0,$0\njob 3 base 3 A016742 accepted 10\nmul $0,2\nseq $0,290\njob 4 base 4 A016742 no-gain\nmul $0,2\nseq $0,290\nstore\n= A000290 10\nmul $0,$0\n= A016742 10\nmul $0,2\nseq $0,290\nend jobs 5 version 4\n",
+    },
+    // step-limit-cuts
+    Row {
+        words: &["publish", "terms=t", "store=-", "cands=c", "steps=50"],
+        terms: FIBONACCI_TERMS,
+        store: "",
+        candidates: FIBONACCI_CANDIDATE,
+        status: Status::Done,
+        output: "journal\njob 0 base 0 A000045 accepted 9\nmov $1,1\nlpb $0\n  sub $0,1\n  mov $3,$1\n  add $1,$2\n  mov $2,$3\nlpe\nmov $0,$2\nstore\n= A000045 9\nmov $1,1\nlpb $0\n  sub $0,1\n  mov $3,$1\n  add $1,$2\n  mov $2,$3\nlpe\nmov $0,$2\nend jobs 1 version 1\n",
+    },
+    Row {
+        words: &["publish", "terms=t", "store=-", "cands=c", "steps=42"],
+        terms: FIBONACCI_TERMS,
+        store: "",
+        candidates: FIBONACCI_CANDIDATE,
+        status: Status::Done,
+        output: "journal\njob 0 base 0 A000045 wrong 7 got out-of-steps\nmov $1,1\nlpb $0\n  sub $0,1\n  mov $3,$1\n  add $1,$2\n  mov $2,$3\nlpe\nmov $0,$2\nstore\nend jobs 1 version 0\n",
+    },
+    // onto a store that was read
+    Row {
+        words: &["publish", "store=s", "cands=c", "terms=t"],
+        terms: SQUARES,
+        store: "= A000290 10\nmov $1,$0\nmul $0,$1\n",
+        candidates: SQUARE,
+        status: Status::Done,
+        output: SQUARE_REPORT,
+    },
+];
+
+#[test]
+fn publishes_by_other_words(rt: HostRuntime) -> Result<(), Fail> {
+    let alloc = rt.alloc();
+    for row in &OTHER_WORDS {
+        check_row(&rt, alloc, row)?;
+    }
+    Ok(())
 }
 
 const NUMBERS: &str = "A000290 ,0,1,4,9,16,25,36,49,64,81,\nA001477 ,0,1,2,3,4,5,6,7,\n";
 
+const UNDONE_CALLS: [(&str, &str, &str); 2] = [
+    (
+        NUMBERS,
+        "? A000290\nmul $0,$0\n? A001477\nmov $1,-1\nlpb $2\nseq $1,290\nsub $2,1\nlpe\n? A000290\nmov $1,$0\nadd $1,1\npow $1,-1\nmul $0,$0\n",
+        "journal\njob 0 base 0 A000290 accepted 10\nmul $0,$0\njob 1 base 1 A001477 accepted 8\nmov $1,-1\nlpb $2\n  seq $1,290\n  sub $2,1\nlpe\njob 2 base 2 A000290 broken -1 caller A001477 index 0 was 1 now divide-by-zero\nmov $1,$0\nadd $1,1\npow $1,-1\nmul $0,$0\nstore\n= A000290 10\nmul $0,$0\n= A001477 8\nmov $1,-1\nlpb $2\n  seq $1,290\n  sub $2,1\nlpe\nend jobs 3 version 2\n",
+    ),
+    (
+        NUMBERS,
+        "? A000290\nmul $0,$0\n? A001477\nmov $1,20\nlpb $2\nseq $1,290\nsub $2,1\nlpe\n? A000290\nmov $1,$0\nsub $1,20\npow $1,-1\nmul $0,$0\n",
+        "journal\njob 0 base 0 A000290 accepted 10\nmul $0,$0\njob 1 base 1 A001477 accepted 8\nmov $1,20\nlpb $2\n  seq $1,290\n  sub $2,1\nlpe\njob 2 base 2 A000290 broken 20 caller A001477 index 0 was 400 now divide-by-zero\nmov $1,$0\nsub $1,20\npow $1,-1\nmul $0,$0\nstore\n= A000290 10\nmul $0,$0\n= A001477 8\nmov $1,20\nlpb $2\n  seq $1,290\n  sub $2,1\nlpe\nend jobs 3 version 2\n",
+    ),
+];
+
 #[test]
 fn demands_calls_of_undone_iterations(rt: HostRuntime) -> Result<(), Fail> {
-    let rows = [
-        published(
-            NUMBERS,
-            "? A000290\nmul $0,$0\n? A001477\nmov $1,-1\nlpb $2\nseq $1,290\nsub $2,1\nlpe\n? A000290\nmov $1,$0\nadd $1,1\npow $1,-1\nmul $0,$0\n",
-            "journal\njob 0 base 0 A000290 accepted 10\nmul $0,$0\njob 1 base 1 A001477 accepted 8\nmov $1,-1\nlpb $2\n  seq $1,290\n  sub $2,1\nlpe\njob 2 base 2 A000290 broken -1 caller A001477 index 0 was 1 now divide-by-zero\nmov $1,$0\nadd $1,1\npow $1,-1\nmul $0,$0\nstore\n= A000290 10\nmul $0,$0\n= A001477 8\nmov $1,-1\nlpb $2\n  seq $1,290\n  sub $2,1\nlpe\nend jobs 3 version 2\n",
-        ),
-        published(
-            NUMBERS,
-            "? A000290\nmul $0,$0\n? A001477\nmov $1,20\nlpb $2\nseq $1,290\nsub $2,1\nlpe\n? A000290\nmov $1,$0\nsub $1,20\npow $1,-1\nmul $0,$0\n",
-            "journal\njob 0 base 0 A000290 accepted 10\nmul $0,$0\njob 1 base 1 A001477 accepted 8\nmov $1,20\nlpb $2\n  seq $1,290\n  sub $2,1\nlpe\njob 2 base 2 A000290 broken 20 caller A001477 index 0 was 400 now divide-by-zero\nmov $1,$0\nsub $1,20\npow $1,-1\nmul $0,$0\nstore\n= A000290 10\nmul $0,$0\n= A001477 8\nmov $1,20\nlpb $2\n  seq $1,290\n  sub $2,1\nlpe\nend jobs 3 version 2\n",
-        ),
-    ];
-    check_rows(&rt, rt.alloc(), &rows)
+    check_journals(&rt, rt.alloc(), &UNDONE_CALLS)
 }
 
-const fn evaluated(
+fn evaluated(
     words: &'static [&'static str],
+    terms: &'static str,
     store: &'static str,
     output: &'static str,
 ) -> Row {
     Row {
         words,
-        terms: "",
+        terms,
         store,
         candidates: "",
         status: Status::Done,
@@ -210,22 +286,7 @@ const fn evaluated(
     }
 }
 
-const fn evaluated_terms(
-    words: &'static [&'static str],
-    terms: &'static str,
-    output: &'static str,
-) -> Row {
-    Row {
-        words,
-        terms,
-        store: "",
-        candidates: "",
-        status: Status::Done,
-        output,
-    }
-}
-
-const fn refused(
+fn refused(
     words: &'static [&'static str],
     terms: &'static str,
     store: &'static str,
@@ -245,77 +306,172 @@ const CYCLE: &str = "= A000001 8\nseq $0,2\n= A000002 8\nseq $0,1\n";
 
 const REGION: &str = "= A000002 8\nmov $1,2\nlpb $0,2\nsub $1,1\nadd $2,1\nlpe\nmov $0,$2\n";
 
+// The words, the store, and the output.
+const EVALUATED: [(&[&str], &str, &str); 8] = [
+    // fibonacci
+    (
+        &["eval", "store=s", "name=A000045", "arg=0"],
+        FIBONACCI,
+        "value 0 steps 8\n",
+    ),
+    (
+        &["eval", "arg=7", "name=A000045", "store=s"],
+        FIBONACCI,
+        "value 13 steps 43\n",
+    ),
+    (
+        &["eval", "store=s", "name=A000045", "arg=7", "steps=43"],
+        FIBONACCI,
+        "value 13 steps 43\n",
+    ),
+    (
+        &["eval", "store=s", "name=A000045", "arg=7", "steps=42"],
+        FIBONACCI,
+        "out-of-steps\n",
+    ),
+    // region-of-two
+    (
+        &["eval", "store=s", "name=A000002", "arg=0"],
+        REGION,
+        "value 2 steps 15\n",
+    ),
+    // cyclic-store
+    (
+        &["eval", "store=s", "name=A000001", "arg=0"],
+        CYCLE,
+        "out-of-steps\n",
+    ),
+    (
+        &["eval", "store=s", "name=A000001", "arg=-5"],
+        "= A000001 8\ndiv $0,0\n",
+        "fault divide-by-zero steps 1\n",
+    ),
+    (
+        &["eval", "store=s", "name=A000001", "arg=-5"],
+        "= A000001 8\nseq $0,7\n",
+        "fault missing steps 1\n",
+    ),
+];
+
+// The words, the terms, the store, and the status. Nothing is written.
+const ABSENT: [(&[&str], &str, &str, Status); 3] = [
+    (
+        &["eval", "store=s", "name=A000003", "arg=0"],
+        "",
+        CYCLE,
+        Status::Absent { name: 3 },
+    ),
+    (
+        &["eval", "store=s", "name=A000003", "arg=0"],
+        "",
+        FIBONACCI,
+        Status::Absent { name: 3 },
+    ),
+    (
+        &["eval", "store=-", "name=A000003", "arg=-5"],
+        "",
+        "",
+        Status::Absent { name: 3 },
+    ),
+];
+
 #[test]
 fn evaluates(rt: HostRuntime) -> Result<(), Fail> {
-    let rows = [
-        // fibonacci
-        evaluated(
-            &["eval", "store=s", "name=A000045", "arg=0"],
-            FIBONACCI,
-            "value 0 steps 8\n",
-        ),
-        evaluated(
-            &["eval", "arg=7", "name=A000045", "store=s"],
-            FIBONACCI,
-            "value 13 steps 43\n",
-        ),
-        evaluated(
-            &["eval", "store=s", "name=A000045", "arg=7", "steps=43"],
-            FIBONACCI,
-            "value 13 steps 43\n",
-        ),
-        evaluated(
-            &["eval", "store=s", "name=A000045", "arg=7", "steps=42"],
-            FIBONACCI,
-            "out-of-steps\n",
-        ),
-        // region-of-two
-        evaluated(
-            &["eval", "store=s", "name=A000002", "arg=0"],
-            REGION,
-            "value 2 steps 15\n",
-        ),
-        // cyclic-store
-        evaluated(
-            &["eval", "store=s", "name=A000001", "arg=0"],
-            CYCLE,
-            "out-of-steps\n",
-        ),
-        refused(
-            &["eval", "store=s", "name=A000003", "arg=0"],
-            "",
-            CYCLE,
-            Status::Absent { name: 3 },
-        ),
-        refused(
-            &["eval", "store=s", "name=A000003", "arg=0"],
-            "",
-            FIBONACCI,
-            Status::Absent { name: 3 },
-        ),
-        refused(
-            &["eval", "store=-", "name=A000003", "arg=-5"],
-            "",
-            "",
-            Status::Absent { name: 3 },
-        ),
-        evaluated(
-            &["eval", "store=s", "name=A000001", "arg=-5"],
-            "= A000001 8\ndiv $0,0\n",
-            "fault divide-by-zero steps 1\n",
-        ),
-        evaluated(
-            &["eval", "store=s", "name=A000001", "arg=-5"],
-            "= A000001 8\nseq $0,7\n",
-            "fault missing steps 1\n",
-        ),
-    ];
-    check_rows(&rt, rt.alloc(), &rows)
+    let alloc = rt.alloc();
+    for (words, store, output) in EVALUATED {
+        check_row(&rt, alloc, &evaluated(words, "", store, output))?;
+    }
+    check_refusals(&rt, alloc, &ABSENT)
 }
 
 const CHECK: &[&str] = &["check", "terms=t", "store=s"];
 
 const UNMET: &str = "= A000290 10\nmov $1,$0\nmin $1,8\nmul $0,$1\n";
+
+// The terms, and the output over the empty store.
+const CHECKED: [(&str, &str); 2] = [
+    // line-forms
+    (
+        "# OEIS\r\n\r\nA000290 ,0,1,4,9,16,25,36,49,64,81,\r\nA000027 ,1,2,3,4,5,6,7,8,",
+        "rows 2\nskipped 0\nprograms 0\nsound\n",
+    ),
+    // wide-term
+    (
+        "A000290 ,0,1,4,9,16,25,36,170141183460469231731687303715884105728,64,81,\n",
+        "rows 0\nskipped 1\nprograms 0\nsound\n",
+    ),
+];
+
+const REFUSED: [(&[&str], &str, &str, Status); 8] = [
+    (
+        CHECK,
+        "A000290 ,0,1x,4,",
+        "",
+        Status::BadTerms {
+            line: 1,
+            kind: TermsKind::BadTerm { column: 12 },
+        },
+    ),
+    (
+        CHECK,
+        "A000290 ,0,1",
+        "",
+        Status::BadTerms {
+            line: 1,
+            kind: TermsKind::NoComma,
+        },
+    ),
+    (
+        CHECK,
+        "A29 ,0,",
+        "",
+        Status::BadTerms {
+            line: 1,
+            kind: TermsKind::BadName,
+        },
+    ),
+    (
+        CHECK,
+        "A000290 ,0,1,4,9,16,25,36,49,64,81,\nA000290 ,0,1,4,9,16,25,36,49,64,81,",
+        "",
+        Status::BadTerms {
+            line: 2,
+            kind: TermsKind::Repeated { name: 290 },
+        },
+    ),
+    (
+        CHECK,
+        "",
+        "= A000290 7\n",
+        Status::BadStore {
+            line: 1,
+            kind: StoreKind::BadCount,
+        },
+    ),
+    (
+        CHECK,
+        SQUARES,
+        "= A000290 11\nmul $0,$0\n",
+        Status::Unsound(Unsound::Count {
+            name: 290,
+            checked: 11,
+            usable: 10,
+        }),
+    ),
+    (
+        CHECK,
+        SQUARES,
+        "= A000291 8\nmul $0,$0\n",
+        Status::Unsound(Unsound::NoRow { name: 291 }),
+    ),
+    // cyclic-store
+    (
+        CHECK,
+        "A000001 ,0,0,0,0,0,0,0,0,\nA000002 ,0,0,0,0,0,0,0,0,\n",
+        CYCLE,
+        Status::Unsound(Unsound::Cycle { through: 1 }),
+    ),
+];
 
 // The square's tenth term is not given.
 fn unmet(got: Num) -> Status {
@@ -328,100 +484,26 @@ fn unmet(got: Num) -> Status {
 
 #[test]
 fn checks(rt: HostRuntime) -> Result<(), Fail> {
+    let alloc = rt.alloc();
+    for (terms, output) in CHECKED {
+        let words = &["check", "terms=t", "store=-"];
+        check_row(&rt, alloc, &evaluated(words, terms, "", output))?;
+    }
+    check_refusals(&rt, alloc, &REFUSED)?;
     let Some(got) = Num::new(72) else {
         return Err(Fail::new("72 is a number"));
     };
-    let rows = [
-        // line-forms
-        evaluated_terms(
-            &["check", "terms=t", "store=-"],
-            "# OEIS\r\n\r\nA000290 ,0,1,4,9,16,25,36,49,64,81,\r\nA000027 ,1,2,3,4,5,6,7,8,",
-            "rows 2\nskipped 0\nprograms 0\nsound\n",
-        ),
-        // wide-term
-        evaluated_terms(
-            &["check", "terms=t", "store=-"],
-            "A000290 ,0,1,4,9,16,25,36,170141183460469231731687303715884105728,64,81,\n",
-            "rows 0\nskipped 1\nprograms 0\nsound\n",
-        ),
-        refused(
-            CHECK,
-            "A000290 ,0,1x,4,",
-            "",
-            Status::BadTerms {
-                line: 1,
-                kind: TermsKind::BadTerm { column: 12 },
-            },
-        ),
-        refused(
-            CHECK,
-            "A000290 ,0,1",
-            "",
-            Status::BadTerms {
-                line: 1,
-                kind: TermsKind::NoComma,
-            },
-        ),
-        refused(
-            CHECK,
-            "A29 ,0,",
-            "",
-            Status::BadTerms {
-                line: 1,
-                kind: TermsKind::BadName,
-            },
-        ),
-        refused(
-            CHECK,
-            "A000290 ,0,1,4,9,16,25,36,49,64,81,\nA000290 ,0,1,4,9,16,25,36,49,64,81,",
-            "",
-            Status::BadTerms {
-                line: 2,
-                kind: TermsKind::Repeated { name: 290 },
-            },
-        ),
-        refused(
-            CHECK,
-            "",
-            "= A000290 7\n",
-            Status::BadStore {
-                line: 1,
-                kind: StoreKind::BadCount,
-            },
-        ),
+    let unsound = [
         // unsound-opening
-        refused(CHECK, SQUARES, UNMET, unmet(got)),
-        refused(
+        (CHECK, SQUARES, UNMET, unmet(got)),
+        (
             &["publish", "terms=t", "store=s", "cands=c"],
             SQUARES,
             UNMET,
             unmet(got),
         ),
-        refused(
-            CHECK,
-            SQUARES,
-            "= A000290 11\nmul $0,$0\n",
-            Status::Unsound(Unsound::Count {
-                name: 290,
-                checked: 11,
-                usable: 10,
-            }),
-        ),
-        refused(
-            CHECK,
-            SQUARES,
-            "= A000291 8\nmul $0,$0\n",
-            Status::Unsound(Unsound::NoRow { name: 291 }),
-        ),
-        // cyclic-store
-        refused(
-            CHECK,
-            "A000001 ,0,0,0,0,0,0,0,0,\nA000002 ,0,0,0,0,0,0,0,0,\n",
-            CYCLE,
-            Status::Unsound(Unsound::Cycle { through: 1 }),
-        ),
     ];
-    check_rows(&rt, rt.alloc(), &rows)
+    check_refusals(&rt, alloc, &unsound)
 }
 
 // The status and the output of row square-published over this shelf, in writes of at most `take` bytes.
@@ -522,162 +604,156 @@ fn refuses_words(rt: HostRuntime) -> Result<(), Fail> {
     Ok(())
 }
 
+// Each kind of status, its number and its text.
+const TEXTS: [(Status, u8, &str); 21] = [
+    (Status::Usage, 2, "usage"),
+    (
+        Status::ReadFault {
+            file: FileRole::Terms,
+        },
+        3,
+        "cannot read terms",
+    ),
+    (
+        Status::ReadFault {
+            file: FileRole::Store,
+        },
+        3,
+        "cannot read store",
+    ),
+    (
+        Status::ReadFault {
+            file: FileRole::Candidates,
+        },
+        3,
+        "cannot read candidates",
+    ),
+    (Status::WriteFault, 4, "cannot write"),
+    (
+        Status::FileTooLarge {
+            file: FileRole::Terms,
+            size: 268_435_457,
+        },
+        5,
+        "terms too large at byte 268435457",
+    ),
+    (
+        Status::LineTooLong {
+            file: FileRole::Terms,
+            line: 3,
+        },
+        6,
+        "terms line 3 too long",
+    ),
+    (
+        Status::BadTerms {
+            line: 3,
+            kind: TermsKind::BadName,
+        },
+        7,
+        "terms line 3: bad-name",
+    ),
+    (
+        Status::BadTerms {
+            line: 3,
+            kind: TermsKind::NoComma,
+        },
+        7,
+        "terms line 3: no-comma",
+    ),
+    (
+        Status::BadTerms {
+            line: 3,
+            kind: TermsKind::BadTerm { column: 12 },
+        },
+        7,
+        "terms line 3: bad-term column 12",
+    ),
+    (
+        Status::BadTerms {
+            line: 3,
+            kind: TermsKind::Repeated { name: 290 },
+        },
+        7,
+        "terms line 3: repeated A000290",
+    ),
+    (
+        Status::BadStore {
+            line: 3,
+            kind: StoreKind::BadHeader,
+        },
+        8,
+        "store line 3: bad-header",
+    ),
+    (
+        Status::BadStore {
+            line: 3,
+            kind: StoreKind::OutOfOrder,
+        },
+        8,
+        "store line 3: out-of-order",
+    ),
+    (
+        Status::BadStore {
+            line: 3,
+            kind: StoreKind::Syntax(SyntaxKind::UnknownOp),
+        },
+        8,
+        "store line 3: unknown-op",
+    ),
+    (
+        Status::BadCandidates {
+            line: 3,
+            kind: StoreKind::TooMany,
+        },
+        9,
+        "candidates line 3: too-many",
+    ),
+    (
+        Status::Unsound(Unsound::Cycle { through: 1 }),
+        10,
+        "unsound: cycle through A000001",
+    ),
+    (
+        Status::Unsound(Unsound::NoRow { name: 290 }),
+        10,
+        "unsound: A000290 has no row",
+    ),
+    (
+        Status::Unsound(Unsound::Count {
+            name: 290,
+            checked: 11,
+            usable: 10,
+        }),
+        10,
+        "unsound: A000290 checked 11 usable 10",
+    ),
+    (
+        Status::Unsound(Unsound::Unmet {
+            name: 290,
+            index: 9,
+            got: Got::OutOfSteps,
+        }),
+        10,
+        "unsound: A000290 index 9 got out-of-steps",
+    ),
+    (Status::Memory, 11, "out of memory"),
+    (Status::Absent { name: 3 }, 12, "no program A000003"),
+];
+
 #[test]
 fn tells_each_status(rt: HostRuntime) -> Result<(), Fail> {
     let alloc = rt.alloc();
-    let got = match Num::new(72) {
-        Some(value) => Got::Value(value),
-        None => return Err(Fail::new("72 is a number")),
-    };
-    let rows = [
-        (Status::Usage, 2, "usage"),
-        (
-            Status::ReadFault {
-                file: FileRole::Terms,
-            },
-            3,
-            "cannot read terms",
-        ),
-        (
-            Status::ReadFault {
-                file: FileRole::Store,
-            },
-            3,
-            "cannot read store",
-        ),
-        (
-            Status::ReadFault {
-                file: FileRole::Candidates,
-            },
-            3,
-            "cannot read candidates",
-        ),
-        (Status::WriteFault, 4, "cannot write"),
-        (
-            Status::FileTooLarge {
-                file: FileRole::Terms,
-                size: 268_435_457,
-            },
-            5,
-            "terms too large at byte 268435457",
-        ),
-        (
-            Status::LineTooLong {
-                file: FileRole::Terms,
-                line: 3,
-            },
-            6,
-            "terms line 3 too long",
-        ),
-        (
-            Status::BadTerms {
-                line: 3,
-                kind: TermsKind::BadName,
-            },
-            7,
-            "terms line 3: bad-name",
-        ),
-        (
-            Status::BadTerms {
-                line: 3,
-                kind: TermsKind::NoComma,
-            },
-            7,
-            "terms line 3: no-comma",
-        ),
-        (
-            Status::BadTerms {
-                line: 3,
-                kind: TermsKind::BadTerm { column: 12 },
-            },
-            7,
-            "terms line 3: bad-term column 12",
-        ),
-        (
-            Status::BadTerms {
-                line: 3,
-                kind: TermsKind::Repeated { name: 290 },
-            },
-            7,
-            "terms line 3: repeated A000290",
-        ),
-        (
-            Status::BadStore {
-                line: 3,
-                kind: StoreKind::BadHeader,
-            },
-            8,
-            "store line 3: bad-header",
-        ),
-        (
-            Status::BadStore {
-                line: 3,
-                kind: StoreKind::OutOfOrder,
-            },
-            8,
-            "store line 3: out-of-order",
-        ),
-        (
-            Status::BadStore {
-                line: 3,
-                kind: StoreKind::Syntax(SyntaxKind::UnknownOp),
-            },
-            8,
-            "store line 3: unknown-op",
-        ),
-        (
-            Status::BadCandidates {
-                line: 3,
-                kind: StoreKind::TooMany,
-            },
-            9,
-            "candidates line 3: too-many",
-        ),
-        (
-            Status::Unsound(Unsound::Cycle { through: 1 }),
-            10,
-            "unsound: cycle through A000001",
-        ),
-        (
-            Status::Unsound(Unsound::NoRow { name: 290 }),
-            10,
-            "unsound: A000290 has no row",
-        ),
-        (
-            Status::Unsound(Unsound::Count {
-                name: 290,
-                checked: 11,
-                usable: 10,
-            }),
-            10,
-            "unsound: A000290 checked 11 usable 10",
-        ),
-        (
-            Status::Unsound(Unsound::Unmet {
-                name: 290,
-                index: 9,
-                got,
-            }),
-            10,
-            "unsound: A000290 index 9 got 72",
-        ),
-        (
-            Status::Unsound(Unsound::Unmet {
-                name: 290,
-                index: 9,
-                got: Got::OutOfSteps,
-            }),
-            10,
-            "unsound: A000290 index 9 got out-of-steps",
-        ),
-        (Status::Memory, 11, "out of memory"),
-        (Status::Absent { name: 3 }, 12, "no program A000003"),
-    ];
-    for (status, number, text) in rows {
+    for (status, number, text) in TEXTS {
         let told = status.to_string(alloc)?;
         assert_eq!(rt; told.as_str(), text);
         assert_eq!(rt; status.number(), number);
     }
+    let Some(got) = Num::new(72) else {
+        return Err(Fail::new("72 is a number"));
+    };
+    let told = unmet(got).to_string(alloc)?;
+    assert_eq!(rt; told.as_str(), "unsound: A000290 index 9 got 72");
     assert_eq!(rt; Status::Done.number(), 0);
     Ok(())
 }
