@@ -11,6 +11,7 @@ pub mod Misses
 pub mod Fresh
 pub mod Least
 pub mod Frames
+pub mod Traces
 pub mod Stages
 pub mod Replaced
 pub mod Sides

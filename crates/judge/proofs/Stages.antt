@@ -12,10 +12,11 @@ use Rattle.seq_calls.specs.Frames.{nodes_of}
 use Rattle.judge.specs.declared.comparing.BothRuns.{BothRuns}
 use Rattle.judge.specs.declared.comparing.CheckedRun.{CheckedRun}
 use Rattle.judge.specs.declared.comparing.Changes.{Changes}
-use Rattle.judge.specs.Changes.{OtherValue, MoreSteps, Relies, Before, AtOrBefore, ReliesBefore, ReliesUpTo, IsAmong, IsNext, AreChanges, IsSoundStore}
+use Rattle.judge.specs.Changes.{OtherValue, MoreSteps, Relies, Before, AtOrBefore, ReliesBefore, ReliesUpTo, IsAmong, IsNext, AreChanges, IsSoundStore, MayRely}
 use Rattle.judge.proofs.Demanded.{is_checked}
 use Rattle.judge.proofs.Fresh.{within_ample}
 use Rattle.judge.proofs.Frames.{among_next, next_old, next_new, relies_of, among_relies}
+use Rattle.judge.proofs.Traces.{relies_may}
 use Rattle.judge.proofs.Least.{changes_more, changes_same, changes_none}
 
 abbrev run : ℕ → ℕ → CheckedRun
@@ -152,6 +153,29 @@ module _ (s : Store) (q : ℕ) where
         back r x k = (k.0, by_case k.1)
           where
             by_case : Before r (run (name + 1) 0) → Before r (run name count)
+            by_case (inl l) = by_name r x k.0 (below_or r.name name l)
+            by_case (inr e) = absurd (let l = e.1 in omega (arith, l))
+
+    -- a name that relies on nothing is passed over
+    pub name_passed : (name : ℕ) (c : Changes) → (MayRely s q name → ⊥)
+        → AreChanges runs (ReliesBefore s q (record { name = name; index = 0 })) c → AreChanges runs (ReliesBefore s q (record { name = name + 1; index = 0 })) c
+    name_passed name c cannot h = changes_same runs (ReliesBefore s q (run name 0)) (ReliesBefore s q (run (name + 1) 0)) to back c h
+      where
+        next_before : (r : CheckedRun) → Before r (run name 0) → Before r (run (name + 1) 0)
+        next_before r (inl l) = inl (omega (arith, l))
+        next_before r (inr e) = inl (let f = e.0 in omega (arith, f))
+
+        to : (r : CheckedRun) (x : ℤ) → ReliesBefore s q (run name 0) r x → ReliesBefore s q (run (name + 1) 0) r x
+        to r x k = (k.0, next_before r k.1)
+
+        by_name : (r : CheckedRun) (x : ℤ) → Relies s q r x → (r.name < name) ⊎ (r.name ≡ name) → Before r (run name 0)
+        by_name r x k (inl l) = inl l
+        by_name r x k (inr e) = absurd (cannot (subst (λ (n : ℕ). MayRely s q n) e (relies_may s q r x k)))
+
+        back : (r : CheckedRun) (x : ℤ) → ReliesBefore s q (run (name + 1) 0) r x → ReliesBefore s q (run name 0) r x
+        back r x k = (k.0, by_case k.1)
+          where
+            by_case : Before r (run (name + 1) 0) → Before r (run name 0)
             by_case (inl l) = by_name r x k.0 (below_or r.name name l)
             by_case (inr e) = absurd (let l = e.1 in omega (arith, l))
 

@@ -5,6 +5,7 @@ use Rattle.std.specs.declared.option.Option.TheVariants.{Some, None}
 use Rattle.loda_syntax.specs.Programs.{Text}
 use Rattle.program_store.specs.declared.published.Proposal.{Proposal}
 use Rattle.program_store.specs.Store.{Store, programs_of, checked_at}
+use Rattle.call_graph.specs.Closure.{ReachesByCall}
 use Rattle.seq_calls.specs.declared.outcomes.Outcome.{Outcome as Told}
 use Rattle.seq_calls.specs.declared.outcomes.Outcome.TheVariants as told_as
 use Rattle.seq_calls.specs.declared.outcomes.NodeRun.{NodeRun}
@@ -50,6 +51,10 @@ SameSteps runs = BothValues (λ v n w m. n ≡ m) runs.with_old runs.with_new
 -- The checked run demands x of q, or is itself the run of q at x.
 abbrev pub Relies : Store → ℕ → CheckedRun → ℤ → Type 0
 Relies s q r x = Demands s r.name r.index q x ⊎ ((r.name ≡ q) × (r.index < checked_at s q) × (x ≡ pos r.index))
+
+-- The runs of this name may rely on an argument of q: it is q itself, or some call of its program reaches q.
+abbrev pub MayRely : Store → ℕ → ℕ → Type 0
+MayRely s q name = (name ≡ q) ⊎ ReachesByCall (programs_of s) name q
 
 -- checked runs in order, by names and then by indices
 abbrev pub Before : CheckedRun → CheckedRun → Type 0

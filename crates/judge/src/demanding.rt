@@ -1,11 +1,12 @@
 //! What changes for the checked runs of published programs.
 
-ghost use Rattle.std.specs.Prelude.{◌≡◌, ◌+◌, ◌<◌, ◌≤◌, IfOk};
+ghost use Rattle.std.specs.Prelude.{◌≡◌, ◌+◌, ◌<◌, ◌≤◌, ◌↔◌, IfOk, IsTrue};
 ghost use Rattle.program_store.specs.Store.{IsStore, checked_at};
-ghost use Rattle.judge.specs.Changes.{AreAllChanges, AreChangesBefore, AreChangesUpTo, IsSoundStore, first_run, next_run};
+ghost use Rattle.judge.specs.Changes.{AreAllChanges, AreChangesBefore, AreChangesUpTo, IsSoundStore, MayRely, first_run, next_run};
 
 use crate::comparing::{Changed, Changes, CheckedRun, both_runs};
 use crate::passing::number_of;
+use call_graph::first_through;
 use program_store::{Proposal, View};
 use seq_calls::{NodeRun, evaluate_alone};
 use std::alloc::{AllocError, Global};
@@ -65,7 +66,23 @@ pub fn checked_count<V: View>(view: &V, name: u32) -> u32
     }
 }
 
-// The changes after the checked runs of one more name.
+// Whether runs of a name may rely on another one: it is that name, or a call of its program reaches it.
+fn may_rely<V: View>(alloc: Global, view: &V, name: u32, on: u32) -> Result<bool, AllocError>
+    ensures { IfOk result (λ may. IsTrue may ↔ MayRely (V.store view.now) on name) }
+{
+    if name == on {
+        return Ok(true);
+    }
+    match view.published(name) {
+        Some(published) => {
+            let first = first_through(alloc, view, &published.program, on)?;
+            Ok(first.is_some())
+        }
+        None => Ok(false),
+    }
+}
+
+// The changes after the checked runs of one more name. They aren't run where none of them can rely on the proposed one.
 fn after_name<V: View>(
     alloc: Global,
     view: &V,
@@ -79,6 +96,9 @@ fn after_name<V: View>(
     requires changes { AreChangesBefore (V.store view.now) limit proposal.now (first_run name) changes }
     ensures { IfOk result (AreChangesBefore (V.store view.now) limit proposal.now (first_run (name + 1))) }
 {
+    if !may_rely(alloc, view, name, proposal.name)? {
+        return Ok(changes);
+    }
     let count = checked_count(view, name);
     for index in 0..count {
         let by = CheckedRun { name, index };

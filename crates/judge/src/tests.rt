@@ -71,7 +71,10 @@ const LONG: &str =
 
 const NATURALS: &str = "A000290 ,0,1,4,9,16,25,36,49,64,81,\nA001477 ,0,1,2,3,4,5,6,7,\n";
 
-const ROWS: [Row; 6] = [
+const CHAIN: &str =
+    "A000290 ,0,1,4,9,16,25,36,49,64,81,\nA001477 ,0,1,2,3,4,5,6,7,\nA016742 ,0,4,16,36,64,100,144,196,\nA016802 ,0,16,64,144,256,400,576,784,\n";
+
+const ROWS: [Row; 7] = [
     // a square of what is at most nine, longer and dearer squares, and cycles
     Row {
         terms: BOTH,
@@ -137,6 +140,19 @@ const ROWS: [Row; 6] = [
             Told::Accepted(10),
             Told::Accepted(8),
             Told::Broken(20, 1477, 0, 400, Now::DivideByZero),
+        ],
+    },
+    // a caller's caller, and a name that calls nothing
+    Row {
+        terms: CHAIN,
+        limit: 100_000,
+        candidates: "? A000290\nmul $0,$0\n? A001477\nmov $1,$0\n? A016742\nmul $0,2\nseq $0,290\n? A016802\nmul $0,2\nseq $0,16742\n? A000290\nmov $1,$0\nmin $1,15\nmul $0,$1\n",
+        answers: &[
+            Told::Accepted(10),
+            Told::Accepted(8),
+            Told::Accepted(8),
+            Told::Accepted(8),
+            Told::Broken(16, 16802, 4, 256, Now::Value(240)),
         ],
     },
 ];
