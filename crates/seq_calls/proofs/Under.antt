@@ -17,7 +17,7 @@ use Rattle.seq_calls.specs.declared.outcomes.NodeRun.{NodeRun}
 use Rattle.seq_calls.specs.declared.outcomes.Outcome.TheVariants as told_as
 use Rattle.seq_calls.specs.declared.evaluation.Run.{Run}
 use Rattle.seq_calls.specs.Frames.{pair, direct, steps_below, nodes_in, node_of, told, steps_of}
-use Rattle.seq_calls.specs.Under.{own_node, IsRun}
+use Rattle.seq_calls.specs.Under.{own_node, named_run, IsRun}
 use Rattle.seq_calls.proofs.Joined.{join-none, after-none, direct_join, steps_join, nodes_join}
 use Rattle.seq_calls.proofs.Unwind.{Waiting, unwind, nodes_before, AreGiven, push_call, missing_call, pop_value, unwind_failed, unwind_spent}
 
@@ -259,20 +259,21 @@ ended_done lib limit ran name x frame nodes own n left used v new run u adv sum 
         told_run ran name x limit left run (value v used) c own is outcome
         (are ∙ ap (λ (ns : List NodeRun). ns ++ own) (nodes_are ∙ ap nodes_in (sym (join-none u.before)))) (ap (own_node name x (value v used)) (join-none u.before) ∙ own_is) (omega (arith, w, sum))
 
--- that of a name
-pub finished : (lib : Library) (limit : ℕ) (ran : Outcome × Calls) (name : Option ℕ) (q : ℕ) (x : ℤ) (frame : Frame) (nodes : List NodeRun) (node : NodeRun) (n left used : ℕ) (v : ℤ) (new : State) (run : Run)
-    → name ≡ Some q → (u : IsUnder lib limit ran frame [] nodes n) → Advances frame.machine n (stop.Done v) left new → used + left ≡ frame.given → IsNode (pair q x) u.before v used node
-    → run.outcome ≡ told_as.Value v used → run.nodes ≡ nodes ++ node ∷ [] → IsRun ran name x limit run left
-finished lib limit ran name q x frame nodes node n left used v new run named u adv sum is_node outcome are =
-    ended_done lib limit ran name x frame nodes (node ∷ []) n left used v new run u adv sum
-    (ap (λ (m : Option ℕ). own_node m x (value v used) u.before) named ∙ sym (node_is (pair q x) u.before v used node is_node)) outcome are
+-- its own finished run, of what its frame holds
+named_run-is : (name : Option ℕ) (x v : ℤ) (used below : ℕ) (calls : List Pair) (before : Calls) → below ≡ steps_below before → calls ≡ direct before
+    → own_node name x (value v used) before ≡ named_run name x v (used - below) calls
+named_run-is (Some q) x v used below calls before same_below same_calls =
+    let N : ℕ → List Pair → List NodeRun = λ o cs. record { pair = pair q x; value = v; own = o; calls = cs } ∷ [] in
+    sym (ap (λ (b : ℕ). N (used - b) calls) same_below ∙ ap (N (used - steps_below before)) same_calls)
+named_run-is None x v used below calls before same_below same_calls = refl
 
--- that of a program without a name
-pub finished_alone : (lib : Library) (limit : ℕ) (ran : Outcome × Calls) (name : Option ℕ) (x : ℤ) (frame : Frame) (nodes : List NodeRun) (n left used : ℕ) (v : ℤ) (new : State) (run : Run)
-    → name ≡ None → (u : IsUnder lib limit ran frame [] nodes n) → Advances frame.machine n (stop.Done v) left new → used + left ≡ frame.given
-    → run.outcome ≡ told_as.Value v used → run.nodes ≡ nodes → IsRun ran name x limit run left
-finished_alone lib limit ran name x frame nodes n left used v new run unnamed u adv sum outcome are =
-    ended_done lib limit ran name x frame nodes [] n left used v new run u adv sum (ap (λ (m : Option ℕ). own_node m x (value v used) u.before) unnamed) outcome (are ∙ sym (append-nil nodes))
+-- with a name or without one
+pub finished : (lib : Library) (limit : ℕ) (ran : Outcome × Calls) (name : Option ℕ) (x : ℤ) (frame : Frame) (nodes : List NodeRun) (n left used : ℕ) (v : ℤ) (new : State) (run : Run)
+    → IsUnder lib limit ran frame [] nodes n → Advances frame.machine n (stop.Done v) left new → used + left ≡ frame.given
+    → run.outcome ≡ told_as.Value v used → run.nodes ≡ nodes ++ named_run name x v (used - frame.below) frame.calls.items → IsRun ran name x limit run left
+finished lib limit ran name x frame nodes n left used v new run u adv sum outcome are =
+    ended_done lib limit ran name x frame nodes (named_run name x v (used - frame.below) frame.calls.items) n left used v new run u adv sum
+    (named_run-is name x v used frame.below frame.calls.items u.before u.stands.below u.stands.calls) outcome are
 
 -- ---- what the code has
 

@@ -1,17 +1,17 @@
 //! Runs of programs with their calls.
 
-ghost use Rattle.std.specs.Prelude.{◌≡◌, ◌+◌, ◌≤◌, ◌<◌, Some, IfOk, OnOk};
+ghost use Rattle.std.specs.Prelude.{◌≡◌, ◌+◌, ◌-◌, ◌≤◌, ◌<◌, ◌++◌, Some, IfOk, OnOk};
 ghost use Rattle.loda_semantics.specs.Exec.{run_name, run_text};
 ghost use Rattle.seq_calls.specs.Frames.{told, steps_of, nodes_of};
-ghost use Rattle.seq_calls.specs.Under.{IsRun};
+ghost use Rattle.seq_calls.specs.Under.{IsRun, named_run};
 
 use crate::counting::Steps;
 use crate::finished::Frames;
 use crate::outcomes::{NodeRun, Outcome};
 use crate::pairs_list::Pairs;
-use crate::unfinished::{Caller, begin};
+use crate::unfinished::{Caller, Frame, begin};
 use checked_numbers::Num;
-use lex_loops::Stop;
+use lex_loops::{Machine, Stop};
 use loda_semantics::{FaultKind, Pair};
 use loda_syntax::Program;
 use program_store::Library;
@@ -42,8 +42,28 @@ fn failed(kind: FaultKind, steps: u64, nodes: Vec<NodeRun>) -> Run
     ended(Outcome::Fault { kind, steps }, nodes)
 }
 
-// A run of a program, with a frame for each run that has not ended. Where the program has a name, its own run is the last of
-// the finished ones.
+// The outermost run ended with a value. Where its program has a name, its own run is the last of the finished ones.
+fn ended_with(
+    frame: Frame<'_>,
+    name: Option<u32>,
+    arg: Num,
+    value: Num,
+    used: u64,
+    mut nodes: Vec<NodeRun>,
+) -> Result<Run, AllocError>
+    requires { frame.below ≤ used }
+    ensures outcome { IfOk result (λ run. run.outcome ≡ Outcome.Value value used) }
+    ensures nodes { IfOk result (λ run. run.nodes ≡ nodes.items ++ named_run name arg value (used - frame.entry.below) frame.entry.calls.items) }
+{
+    let outcome = Outcome::Value { value, steps: used };
+    if let Some(name) = name {
+        let (own, _machine) = frame.end(Pair { name, arg }, value, used);
+        nodes.push(own)?;
+    }
+    Ok(ended(outcome, nodes))
+}
+
+// A run of a program, with a frame for each run that has not ended. The machine of a run that ended serves the next call.
 fn run_frames<'a, B: Library>(
     alloc: Global,
     lib: &'a B,
@@ -58,7 +78,8 @@ fn run_frames<'a, B: Library>(
     let limit = *budget;
     let mut callers: Vec<Caller<'a>> = Vec::new(alloc);
     let mut nodes: Vec<NodeRun> = Vec::new(alloc);
-    let mut frame = begin(alloc, program, arg, limit)?;
+    let mut free: Vec<Machine> = Vec::new(alloc);
+    let mut frame = begin(alloc, &mut free, program, arg, limit)?;
     loop {
         let text = frame.program;
         match frame.machine.advance(text, budget)? {
@@ -66,7 +87,7 @@ fn run_frames<'a, B: Library>(
                 let Some(program) = lib.program(name) else {
                     return Ok(failed(FaultKind::Missing, limit - *budget, nodes));
                 };
-                let callee = begin(alloc, program, arg, *budget)?;
+                let callee = begin(alloc, &mut free, program, arg, *budget)?;
                 let call = Pair { name, arg };
                 callers.push(Caller { frame, call })?;
                 frame = callee;
@@ -74,14 +95,11 @@ fn run_frames<'a, B: Library>(
             Stop::Done(value) => {
                 let used = frame.given - *budget;
                 let Some(caller) = callers.pop() else {
-                    let outcome = Outcome::Value { value, steps: used };
-                    let Some(name) = name else {
-                        return Ok(ended(outcome, nodes));
-                    };
-                    nodes.push(frame.end(alloc, Pair { name, arg }, value, used))?;
-                    return Ok(ended(outcome, nodes));
+                    return ended_with(frame, name, arg, value, used, nodes);
                 };
-                nodes.push(frame.end(alloc, caller.call, value, used))?;
+                let (node, machine) = frame.end(caller.call, value, used);
+                nodes.push(node)?;
+                free.push(machine)?;
                 frame = caller.frame;
                 frame.go_on(caller.call, value, used)?;
             }

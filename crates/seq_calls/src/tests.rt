@@ -27,6 +27,9 @@ const UNDONE: &str =
 const FAULTS: &str =
     "= A000001 8\ndiv $0,0\n= A000002 8\nadd $0,1\nseq $0,1\n= A000003 8\nadd $0,1\nseq $0,4\n";
 
+// The callee leaves a cell behind that it reads first, and is called twice.
+const TWICE: &str = "= A000001 8\nadd $0,$1\nmov $1,7\n= A000002 8\nseq $0,1\nadd $0,1\nseq $0,1\n";
+
 /// What a run comes to.
 enum End {
     Value(i128, u64),
@@ -46,7 +49,7 @@ struct Row {
     nodes: &'static [Node],
 }
 
-const ROWS: [Row; 13] = [
+const ROWS: [Row; 14] = [
     Row {
         text: FIBONACCI,
         name: 45,
@@ -105,6 +108,18 @@ const ROWS: [Row; 13] = [
         limit: 100,
         end: End::Value(0, 6),
         nodes: &[Node(290, -1, 1, 1, &[]), Node(1477, 0, 0, 5, &[(290, -1)])],
+    },
+    Row {
+        text: TWICE,
+        name: 2,
+        arg: 5,
+        limit: 7,
+        end: End::Value(6, 7),
+        nodes: &[
+            Node(1, 5, 5, 2, &[]),
+            Node(1, 6, 6, 2, &[]),
+            Node(2, 5, 6, 3, &[(1, 5), (1, 6)]),
+        ],
     },
     Row {
         text: CYCLE,

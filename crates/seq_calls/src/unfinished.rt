@@ -11,7 +11,6 @@ use lex_loops::Machine;
 use loda_semantics::Pair;
 use loda_syntax::Program;
 use std::alloc::{AllocError, Global};
-use std::mem;
 
 /// A run: its machine and program, how many steps it was given, its calls so far, and the steps that they used.
 #[derive(Drop)]
@@ -30,9 +29,28 @@ pub struct Caller<'a> {
     pub call: Pair,
 }
 
-/// A run that begins.
+// A machine at the start of a program: one of the free ones, if there is one, or else a new one.
+fn machine_for(
+    alloc: Global,
+    free: &mut Vec<Machine>,
+    program: &Program,
+    arg: Num,
+) -> Result<Machine, AllocError>
+    ensures begins { IfOk result (λ machine. Begins machine program.now arg) }
+    ensures program { IfOk result (λ machine. machine.program ≡ program.now) }
+    ensures phase { IfOk result (λ machine. machine.phase ≡ phase.Ready) }
+{
+    let Some(mut machine) = free.pop() else {
+        return Machine::start(alloc, program, arg);
+    };
+    machine.restart(program, arg);
+    Ok(machine)
+}
+
+/// A run that begins, in one of the free machines if there is one.
 pub fn begin<'a>(
     alloc: Global,
+    free: &mut Vec<Machine>,
     program: &'a Program,
     arg: Num,
     given: u64,
@@ -45,7 +63,7 @@ pub fn begin<'a>(
     ensures calls { IfOk result (λ frame. frame.calls.items ≡ []) }
     ensures below { IfOk result (λ frame. frame.below ≡ 0) }
 {
-    let machine = Machine::start(alloc, program, arg)?;
+    let machine = machine_for(alloc, free, program, arg)?;
     Ok(Frame {
         machine,
         program,
@@ -56,22 +74,28 @@ pub fn begin<'a>(
 }
 
 impl Frame<'_> {
-    /// The finished run of the name and the argument that the frame was for: its value, the steps without those of its
-    /// callees, and its calls, which the frame loses.
-    pub fn end(&mut self, alloc: Global, pair: Pair, value: Num, used: u64) -> NodeRun
-        requires { self.old.below ≤ used }
-        ensures pair { result.pair ≡ pair }
-        ensures value { result.value ≡ value }
-        ensures own { result.own + self.old.below ≡ used }
-        ensures calls { result.calls ≡ self.old.calls.items }
+    /// Takes the frame of a run that has ended apart: the finished run of the name and the argument that the frame was for,
+    /// with its value, its steps without those of its callees, and its calls; and the machine, which is free again.
+    pub fn end(self, pair: Pair, value: Num, used: u64) -> (NodeRun, Machine)
+        requires { self.below ≤ used }
+        ensures pair { result.0.pair ≡ pair }
+        ensures value { result.0.value ≡ value }
+        ensures own { result.0.own + self.entry.below ≡ used }
+        ensures calls { result.0.calls ≡ self.entry.calls.items }
     {
-        let calls = mem::replace(&mut self.calls, Vec::new(alloc));
-        NodeRun {
+        let Frame {
+            machine,
+            calls,
+            below,
+            ..
+        } = self;
+        let node = NodeRun {
             pair,
             value,
-            own: used - self.below,
+            own: used - below,
             calls: Pairs::of(calls),
-        }
+        };
+        (node, machine)
     }
 
     /// Goes on with the value of a call that used so many steps.

@@ -1,13 +1,16 @@
 use Rattle.std.proofs.Common.{ℕ, ◌+◌, ◌-◌, ◌≡◌, refl, sym, ap, subst, ◌∙◌, arith, List, [], ◌∷◌, ◌++◌, length, take, append-nil, length-append}
 use Rattle.std.specs.Prelude.{reverse, vec_len}
 use Rattle.std.specs.Option.{option_copied}
+use Rattle.std.specs.Result.{IfOk}
+use Rattle.std.specs.declared.result.Result.{Result}
+use Rattle.std.specs.declared.result.Result.TheVariants.{Ok, Err}
 use Rattle.std.proofs.lemmas.List.{reverse-append}
 use Rattle.lex_loops.specs.declared.stop.Stop.{Stop}
 use Rattle.lex_loops.specs.State.{Advances, phase_after}
+use Rattle.seq_calls.specs.declared.evaluation.Run.{Run}
 use Rattle.seq_calls.specs.declared.unfinished.Caller.{Caller}
-use Rattle.seq_calls.specs.Frames.{pair}
 use Rattle.seq_calls.proofs.Costs.{call_costs}
-use Rattle.seq_calls.proofs.Under.{begins, caller_of, called, answered, missing, faulted, ran_out, finished, finished_alone, moved, caller_waits, node_made, given_back}
+use Rattle.seq_calls.proofs.Under.{begins, caller_of, called, answered, missing, faulted, ran_out, finished, moved, caller_waits, node_made, given_back}
 use Rattle.seq_calls.proofs.evaluation.run_frames.Goals as goal
 
 -- the last caller of the list is the innermost
@@ -19,6 +22,11 @@ nothing : (callers rest : List Caller) (n : ℕ) → n ≡ 0 → callers ≡ res
 nothing callers rest n none is left =
     let empty : callers ≡ [] = is ∙ append-nil rest ∙ left ∙ ap (λ (m : ℕ). take (m - 1) callers) none in
     ap (λ (xs : List Caller). reverse xs) (sym empty)
+
+-- what two facts of an answer give together
+if_both : {A E : Type 0} (r : Result A E) (P Q R : A → Type 0) → ((a : A) → P a → Q a → R a) → IfOk r P → IfOk r Q → IfOk r R
+if_both (Ok a) P Q R both p q = both a p q
+if_both (Err e) P Q R both p q = tt
 
 pub loop-frame-init : goal.loop-frame-init
 loop-frame-init g c =
@@ -63,26 +71,16 @@ loop-frame-smaller-in-Call g c =
     let more : length c.push.new.self.items ≡ length c.loop-frame.callers.items + 1 = ap (λ (xs : List Caller). length xs) c.in_ok-push-in-Call.ensures.items ∙ length-append c.loop-frame.callers.items (caller ∷ []) in
     omega (arith, fewer, more)
 
-pub returns-in_default-name-clause-run : goal.returns-in_default-name-clause-run
-returns-in_default-name-clause-run g c =
-    let e = c.in_default-pop.ensures in
-    let u = moved (g.B.Library.programs c.args.lib.now) c.args.budget.now _ c.loop-frame.frame (reverse c.loop-frame.callers.items) [] c.loop-frame.nodes.items c.loop-frame.nodes.items c.loop-frame.budget (nothing c.loop-frame.callers.items c.pop.new.self.items (vec_len c.loop-frame.callers) e.cases.0 e.items e.rest) refl c.loop-frame.invariant.under in
-    finished_alone (g.B.Library.programs c.args.lib.now) c.args.budget.now _ c.args.name c.args.arg c.loop-frame.frame c.loop-frame.nodes.items c.loop-frame.budget c.advance.new.budget (c.loop-frame.frame.given - c.advance.new.budget)
-    c.in-Done.value c.advance.new.self c.ended.result (sym c.loop-frame.invariant.name ∙ c.in_default-name.is) u
-    (subst (λ (s : Stop). Advances c.loop-frame.frame.machine c.loop-frame.budget s c.advance.new.budget c.advance.new.self) c.in-Done.is c.in_ok-name.ensures.stops)
-    (given_back _ _ _ _ _ _ c.loop-frame.budget c.advance.new.budget u c.in_ok-name.ensures.budget)
-    c.ended.ensures.outcome c.ended.ensures.nodes
-
 pub returns-in_default-pop-clause-run : goal.returns-in_default-pop-clause-run
 returns-in_default-pop-clause-run g c =
     let e = c.in_default-pop.ensures in
+    let left = c.advance.new.budget in
+    let used = c.loop-frame.frame.given - left in
     let u = moved (g.B.Library.programs c.args.lib.now) c.args.budget.now _ c.loop-frame.frame (reverse c.loop-frame.callers.items) [] c.loop-frame.nodes.items c.loop-frame.nodes.items c.loop-frame.budget (nothing c.loop-frame.callers.items c.pop.new.self.items (vec_len c.loop-frame.callers) e.cases.0 e.items e.rest) refl c.loop-frame.invariant.under in
-    finished (g.B.Library.programs c.args.lib.now) c.args.budget.now _ c.args.name c.in-Some-name.name c.args.arg c.loop-frame.frame c.loop-frame.nodes.items c.end.result c.loop-frame.budget c.advance.new.budget (c.loop-frame.frame.given - c.advance.new.budget)
-    c.in-Done.value c.advance.new.self c.ended-in_default-pop.result (sym c.loop-frame.invariant.name ∙ c.in-Some-name.is) u
-    (subst (λ (s : Stop). Advances c.loop-frame.frame.machine c.loop-frame.budget s c.advance.new.budget c.advance.new.self) c.in-Done.is c.in_ok-name.ensures.stops)
-    (given_back _ _ _ _ _ _ c.loop-frame.budget c.advance.new.budget u c.in_ok-name.ensures.budget)
-    (node_made _ _ _ _ _ _ _ _ (pair c.in-Some-name.name c.args.arg) _ c.end.result u c.end.ensures.pair c.end.ensures.value c.end.ensures.own c.end.ensures.calls)
-    c.ended-in_default-pop.ensures.outcome (c.ended-in_default-pop.ensures.nodes ∙ c.in_ok-push-in-Done.ensures.items)
+    let stops = subst (λ (s : Stop). Advances c.loop-frame.frame.machine c.loop-frame.budget s left c.advance.new.self) c.in-Done.is c.in_ok-name.ensures.stops in
+    let sum = given_back _ _ _ _ _ _ c.loop-frame.budget left u c.in_ok-name.ensures.budget in
+    if_both c.ended_with.result _ _ _ (λ (run : Run) outcome are. finished (g.B.Library.programs c.args.lib.now) c.args.budget.now _ c.args.name c.args.arg c.loop-frame.frame c.loop-frame.nodes.items c.loop-frame.budget left used
+    c.in-Done.value c.advance.new.self run u stops sum outcome are) c.ended_with.ensures.outcome c.ended_with.ensures.nodes
 
 pub go_on-requires-clause-waits : goal.go_on-requires-clause-waits
 go_on-requires-clause-waits g c =
@@ -105,13 +103,13 @@ loop-frame-preserved g c =
     let u = moved (g.B.Library.programs c.args.lib.now) c.args.budget.now _ c.loop-frame.frame (reverse c.loop-frame.callers.items) (c.in-Some-pop.caller ∷ rest) c.loop-frame.nodes.items c.loop-frame.nodes.items c.loop-frame.budget (sym above) refl c.loop-frame.invariant.under in
     let e = c.in_ok-go_on-in-Done.ensures in
     record {
-      under = moved (g.B.Library.programs c.args.lib.now) c.args.budget.now _ c.go_on.new.self rest rest _ _ c.advance.new.budget refl c.in_ok-push-in-Done-2.ensures.items
-          (answered (g.B.Library.programs c.args.lib.now) c.args.budget.now _ c.loop-frame.frame c.go_on.new.self c.in-Some-pop.caller rest c.loop-frame.nodes.items c.end-in-Done.result c.loop-frame.budget c.advance.new.budget (c.loop-frame.frame.given - c.advance.new.budget)
+      under = moved (g.B.Library.programs c.args.lib.now) c.args.budget.now _ c.go_on.new.self rest rest _ _ c.advance.new.budget refl c.in_ok-push-in-Done.ensures.items
+          (answered (g.B.Library.programs c.args.lib.now) c.args.budget.now _ c.loop-frame.frame c.go_on.new.self c.in-Some-pop.caller rest c.loop-frame.nodes.items c.end-node.result.0 c.loop-frame.budget c.advance.new.budget (c.loop-frame.frame.given - c.advance.new.budget)
           c.in-Done.value c.advance.new.self u
           (subst (λ (s : Stop). Advances c.loop-frame.frame.machine c.loop-frame.budget s c.advance.new.budget c.advance.new.self) c.in-Done.is c.in_ok-name.ensures.stops)
           (given_back _ _ _ _ _ _ c.loop-frame.budget c.advance.new.budget u c.in_ok-name.ensures.budget)
           e.answer e.ready e.text e.program e.given e.calls e.below
-          (node_made _ _ _ _ _ _ _ _ c.in-Some-pop.caller.call _ c.end-in-Done.result u c.end-in-Done.ensures.pair c.end-in-Done.ensures.value c.end-in-Done.ensures.own c.end-in-Done.ensures.calls));
+          (node_made _ _ _ _ _ _ _ _ c.in-Some-pop.caller.call _ c.end-node.result.0 u c.end-node.ensures.pair c.end-node.ensures.value c.end-node.ensures.own c.end-node.ensures.calls));
       within = (let a = c.in_ok-name.ensures.budget in let b = c.loop-frame.invariant.within in omega (arith, a, b));
       limit = refl;
       name = c.loop-frame.invariant.name;
@@ -127,6 +125,6 @@ returns-in-Fault-clause-run g c =
 pub returns-in-Spent-clause-run : goal.returns-in-Spent-clause-run
 returns-in-Spent-clause-run g c =
     ran_out (g.B.Library.programs c.args.lib.now) c.args.budget.now _ c.args.name c.args.arg c.loop-frame.frame (reverse c.loop-frame.callers.items) c.loop-frame.nodes.items c.loop-frame.budget c.advance.new.budget
-    c.advance.new.self c.ended-in-Spent.result c.loop-frame.invariant.under c.in_ok-name.ensures.budget
+    c.advance.new.self c.ended.result c.loop-frame.invariant.under c.in_ok-name.ensures.budget
     (subst (λ (s : Stop). Advances c.loop-frame.frame.machine c.loop-frame.budget s c.advance.new.budget c.advance.new.self) c.in-Spent.is c.in_ok-name.ensures.stops)
-    c.ended-in-Spent.ensures.outcome c.ended-in-Spent.ensures.nodes
+    c.ended.ensures.outcome c.ended.ensures.nodes
