@@ -17,7 +17,7 @@ use Rattle.seq_calls.specs.declared.outcomes.NodeRun.{NodeRun}
 use Rattle.seq_calls.specs.declared.outcomes.Outcome.TheVariants as told_as
 use Rattle.seq_calls.specs.declared.evaluation.Run.{Run}
 use Rattle.seq_calls.specs.Frames.{pair, direct, steps_below, nodes_in, node_of, told, steps_of}
-use Rattle.seq_calls.specs.Under.{own_node, named_run, IsRun}
+use Rattle.seq_calls.specs.Under.{own_node, ended_run, named_run, IsRun}
 use Rattle.seq_calls.proofs.Joined.{join-none, after-none, direct_join, steps_join, nodes_join}
 use Rattle.seq_calls.proofs.Unwind.{Waiting, unwind, nodes_before, AreGiven, push_call, missing_call, pop_value, unwind_failed, unwind_spent}
 
@@ -263,7 +263,7 @@ ended_done lib limit ran name x frame nodes own n left used v new run u adv sum 
 named_run-is : (name : Option ℕ) (x v : ℤ) (used below : ℕ) (calls : List Pair) (before : Calls) → below ≡ steps_below before → calls ≡ direct before
     → own_node name x (value v used) before ≡ named_run name x v (used - below) calls
 named_run-is (Some q) x v used below calls before same_below same_calls =
-    let N : ℕ → List Pair → List NodeRun = λ o cs. record { pair = pair q x; value = v; own = o; calls = cs } ∷ [] in
+    let N : ℕ → List Pair → List NodeRun = λ o cs. ended_run (pair q x) v o cs ∷ [] in
     sym (ap (λ (b : ℕ). N (used - b) calls) same_below ∙ ap (N (used - steps_below before)) same_calls)
 named_run-is None x v used below calls before same_below same_calls = refl
 
@@ -296,13 +296,13 @@ caller_waits lib limit ran frame caller callers nodes left u = by_befores u.befo
       room = (let a = w.0.within in let top = left_within limit caller.frame.given caller.frame.given callers bs (omega arith) w.2 in omega (arith, a, top));
     }
 
-pub node_made : (lib : Library) (limit : ℕ) (ran : Outcome × Calls) (frame : Frame) (callers : List Caller) (nodes : List NodeRun) (n used : ℕ) (p : Pair) (v : ℤ) (node : NodeRun) → (u : IsUnder lib limit ran frame callers nodes n)
-    → node.pair ≡ p → node.value ≡ v → node.own + frame.below ≡ used → node.calls ≡ frame.calls.items → IsNode p u.before v used node
-node_made lib limit ran frame callers nodes n used p v node u pair_is value_is own calls = record {
-  pair = pair_is;
-  value = value_is;
-  own = (let b = u.stands.below in omega (arith, b, own));
-  calls = calls ∙ u.stands.calls;
+pub node_made : (lib : Library) (limit : ℕ) (ran : Outcome × Calls) (frame : Frame) (callers : List Caller) (nodes : List NodeRun) (n used : ℕ) (p : Pair) (v : ℤ) → (u : IsUnder lib limit ran frame callers nodes n)
+    → IsNode p u.before v used (ended_run p v (used - frame.below) frame.calls.items)
+node_made lib limit ran frame callers nodes n used p v u = record {
+  pair = refl;
+  value = refl;
+  own = ap (λ (b : ℕ). used - b) u.stands.below;
+  calls = u.stands.calls;
 }
 
 pub given_back : (lib : Library) (limit : ℕ) (ran : Outcome × Calls) (frame : Frame) (callers : List Caller) (nodes : List NodeRun) (n left : ℕ) → IsUnder lib limit ran frame callers nodes n → left ≤ n → (frame.given - left) + left ≡ frame.given

@@ -13,9 +13,13 @@ abbrev pub own_node : Option ℕ → ℤ → Outcome → Calls → List NodeRun
 own_node (Some q) x o c = node_of q x o c
 own_node None x o c = []
 
--- the same of what its frame holds: the value, its steps without those of its callees, and its direct calls
+-- a finished run, of what its frame holds: the value, its steps without those of its callees, and its direct calls
+abbrev pub ended_run : Pair → ℤ → ℕ → List Pair → NodeRun
+ended_run p v own calls = record { pair = p; value = v; own = own; calls = calls }
+
+-- the run's own, which a program without a name has none of
 abbrev pub named_run : Option ℕ → ℤ → ℤ → ℕ → List Pair → List NodeRun
-named_run (Some q) x v own calls = record { pair = pair q x; value = v; own = own; calls = calls } ∷ []
+named_run (Some q) x v own calls = ended_run (pair q x) v own calls ∷ []
 named_run None x v own calls = []
 
 -- Of a run at x, under a name or none, that comes to this: the outcome, the finished runs and the steps that are left of n.

@@ -6,12 +6,12 @@ ghost use Rattle.seq_calls.specs.Frames.{told, steps_of, nodes_of};
 ghost use Rattle.seq_calls.specs.Under.{IsRun, named_run};
 
 use crate::counting::Steps;
-use crate::finished::Frames;
+use crate::finished::{Finished, Frames};
 use crate::outcomes::{NodeRun, Outcome};
 use crate::pairs_list::Pairs;
 use crate::unfinished::{Caller, Frame, begin};
 use checked_numbers::Num;
-use lex_loops::{Machine, Stop};
+use lex_loops::Stop;
 use loda_semantics::{FaultKind, Pair};
 use loda_syntax::Program;
 use program_store::Library;
@@ -77,34 +77,29 @@ fn run_frames<'a, B: Library>(
 {
     let limit = *budget;
     let mut callers: Vec<Caller<'a>> = Vec::new(alloc);
-    let mut nodes: Vec<NodeRun> = Vec::new(alloc);
-    let mut free: Vec<Machine> = Vec::new(alloc);
-    let mut frame = begin(alloc, &mut free, program, arg, limit)?;
+    let mut finished = Finished::none(alloc);
+    let mut frame = begin(alloc, &mut finished.free, program, arg, limit)?;
     loop {
         let text = frame.program;
         match frame.machine.advance(text, budget)? {
             Stop::Call { name, arg } => {
                 let Some(program) = lib.program(name) else {
-                    return Ok(failed(FaultKind::Missing, limit - *budget, nodes));
+                    return Ok(failed(FaultKind::Missing, limit - *budget, finished.nodes));
                 };
-                let callee = begin(alloc, &mut free, program, arg, *budget)?;
-                let call = Pair { name, arg };
-                callers.push(Caller { frame, call })?;
+                let callee = begin(alloc, &mut finished.free, program, arg, *budget)?;
+                callers.push(frame.wait(Pair { name, arg }))?;
                 frame = callee;
             }
             Stop::Done(value) => {
                 let used = frame.given - *budget;
                 let Some(caller) = callers.pop() else {
-                    return ended_with(frame, name, arg, value, used, nodes);
+                    return ended_with(frame, name, arg, value, used, finished.nodes);
                 };
-                let (node, machine) = frame.end(caller.call, value, used);
-                nodes.push(node)?;
-                free.push(machine)?;
-                frame = caller.frame;
-                frame.go_on(caller.call, value, used)?;
+                finished.take(frame, caller.call, value, used)?;
+                frame = caller.go_on(value, used)?;
             }
-            Stop::Fault(kind) => return Ok(failed(kind, limit - *budget, nodes)),
-            Stop::Spent => return Ok(ended(Outcome::OutOfSteps, nodes)),
+            Stop::Fault(kind) => return Ok(failed(kind, limit - *budget, finished.nodes)),
+            Stop::Spent => return Ok(ended(Outcome::OutOfSteps, finished.nodes)),
         }
     }
 }

@@ -1,8 +1,14 @@
-//! The finished runs of names.
+//! Runs that have ended.
 
-ghost use Rattle.std.specs.Prelude.{◌≡◌};
+ghost use Rattle.std.specs.Prelude.{◌≡◌, ◌≤◌, ◌-◌, ◌++◌, ◌∷◌, [], OnOk};
+ghost use Rattle.seq_calls.specs.Under.{ended_run};
 
 use crate::outcomes::NodeRun;
+use crate::unfinished::Frame;
+use checked_numbers::Num;
+use lex_loops::Machine;
+use loda_semantics::Pair;
+use std::alloc::{AllocError, Global};
 use std::marker::Model;
 
 /// Finished runs of names.
@@ -33,5 +39,42 @@ impl Frames {
         ensures { result.now ≡ self.now }
     {
         &self.list
+    }
+}
+
+/// What callees that ended leave: their finished runs, in the order in which they ended, and their machines, which are free
+/// again.
+#[derive(Drop)]
+pub struct Finished {
+    pub nodes: Vec<NodeRun>,
+    pub free: Vec<Machine>,
+}
+
+impl Finished {
+    /// Where no run has ended.
+    pub fn none(alloc: Global) -> Finished
+        ensures { result.nodes.items ≡ [] }
+    {
+        Finished {
+            nodes: Vec::new(alloc),
+            free: Vec::new(alloc),
+        }
+    }
+
+    /// Takes the run of a call that ended with a value after so many steps.
+    pub fn take(
+        &mut self,
+        callee: Frame<'_>,
+        call: Pair,
+        value: Num,
+        used: u64,
+    ) -> Result<(), AllocError>
+        requires { callee.below ≤ used }
+        ensures { OnOk result (self.new.nodes.items ≡ self.old.nodes.items ++ ended_run call value (used - callee.entry.below) callee.entry.calls.items ∷ []) }
+    {
+        let (node, machine) = callee.end(call, value, used);
+        self.nodes.push(node)?;
+        self.free.push(machine)?;
+        Ok(())
     }
 }

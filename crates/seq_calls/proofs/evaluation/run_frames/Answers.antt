@@ -8,7 +8,9 @@ use Rattle.std.proofs.lemmas.List.{reverse-append}
 use Rattle.lex_loops.specs.declared.stop.Stop.{Stop}
 use Rattle.lex_loops.specs.State.{Advances, phase_after}
 use Rattle.seq_calls.specs.declared.evaluation.Run.{Run}
+use Rattle.loda_semantics.specs.declared.kinds.Pair.{Pair}
 use Rattle.seq_calls.specs.declared.unfinished.Caller.{Caller}
+use Rattle.seq_calls.specs.declared.unfinished.Frame.{Frame}
 use Rattle.seq_calls.proofs.Costs.{call_costs}
 use Rattle.seq_calls.proofs.Under.{begins, caller_of, called, answered, missing, faulted, ran_out, finished, moved, caller_waits, node_made, given_back}
 use Rattle.seq_calls.proofs.evaluation.run_frames.Goals as goal
@@ -17,11 +19,24 @@ use Rattle.seq_calls.proofs.evaluation.run_frames.Goals as goal
 top : (callers rest : List Caller) (caller : Caller) → callers ≡ rest ++ caller ∷ [] → reverse callers ≡ caller ∷ reverse rest
 top callers rest caller is = ap (λ (xs : List Caller). reverse xs) is ∙ reverse-append rest (caller ∷ [])
 
+-- the one that was pushed is the innermost
+pushed : (callers rest : List Caller) (made caller : Caller) → callers ≡ rest ++ made ∷ [] → made ≡ caller → reverse callers ≡ caller ∷ reverse rest
+pushed callers rest made caller is same = top callers rest caller (is ∙ ap (λ (x : Caller). rest ++ x ∷ []) same)
+
+one_more : (callers rest : List Caller) (made : Caller) → callers ≡ rest ++ made ∷ [] → length callers ≡ length rest + 1
+one_more callers rest made is = ap (λ (xs : List Caller). length xs) is ∙ length-append rest (made ∷ [])
+
 -- there was no caller to pop
 nothing : (callers rest : List Caller) (n : ℕ) → n ≡ 0 → callers ≡ rest ++ [] → rest ≡ take (n - 1) callers → [] ≡ reverse callers
 nothing callers rest n none is left =
     let empty : callers ≡ [] = is ∙ append-nil rest ∙ left ∙ ap (λ (m : ℕ). take (m - 1) callers) none in
     ap (λ (xs : List Caller). reverse xs) (sym empty)
+
+-- a caller of what it is made of
+waits_as : (caller : Caller) (frame : Frame) (call : Pair) → caller.frame ≡ frame → caller.call ≡ call → caller ≡ record { frame = frame; call = call }
+waits_as caller frame call same_frame same_call =
+    let C : Frame → Pair → Caller = λ f p. record { frame = f; call = p } in
+    ap (λ (f : Frame). C f caller.call) same_frame ∙ ap (C frame) same_call
 
 -- what two facts of an answer give together
 if_both : {A E : Type 0} (r : Result A E) (P Q R : A → Type 0) → ((a : A) → P a → Q a → R a) → IfOk r P → IfOk r Q → IfOk r R
@@ -32,7 +47,7 @@ pub loop-frame-init : goal.loop-frame-init
 loop-frame-init g c =
     let e = c.in_ok-frame.ensures in
     record {
-      under = moved (g.B.Library.programs c.args.lib.now) c.args.budget.now _ c.in_ok-frame.frame [] _ [] _ c.args.budget.now (ap (λ (xs : List Caller). reverse xs) c.new-callers.ensures.items) c.new-nodes.ensures.items
+      under = moved (g.B.Library.programs c.args.lib.now) c.args.budget.now _ c.in_ok-frame.frame [] _ [] _ c.args.budget.now (ap (λ (xs : List Caller). reverse xs) c.new-callers.ensures.items) c.none-finished.ensures
           (begins (g.B.Library.programs c.args.lib.now) c.args.budget.now c.args.arg c.args.program.now c.in_ok-frame.frame e.begins e.text e.phase e.program e.given e.calls e.below);
       within = omega arith;
       limit = refl;
@@ -41,7 +56,7 @@ loop-frame-init g c =
 
 pub returns-in_default-clause-run : goal.returns-in_default-clause-run
 returns-in_default-clause-run g c =
-    missing (g.B.Library.programs c.args.lib.now) c.args.budget.now _ c.args.name c.args.arg c.loop-frame.frame (reverse c.loop-frame.callers.items) c.loop-frame.nodes.items c.loop-frame.budget c.advance.new.budget
+    missing (g.B.Library.programs c.args.lib.now) c.args.budget.now _ c.args.name c.args.arg c.loop-frame.frame (reverse c.loop-frame.callers.items) c.loop-frame.finished.nodes.items c.loop-frame.budget c.advance.new.budget
     c.in-Call.name c.in-Call.arg c.advance.new.self c.failed.result c.loop-frame.invariant.under c.in_ok-name.ensures.budget
     (subst (λ (s : Stop). Advances c.loop-frame.frame.machine c.loop-frame.budget s c.advance.new.budget c.advance.new.self) c.in-Call.is c.in_ok-name.ensures.stops)
     (sym c.program.ensures ∙ ap option_copied c.in_default.is) c.failed.ensures.outcome c.failed.ensures.nodes
@@ -50,10 +65,11 @@ pub loop-frame-preserved-in-Call : goal.loop-frame-preserved-in-Call
 loop-frame-preserved-in-Call g c =
     let e = c.in_ok-callee-in-Call.ensures in
     let caller : Caller = caller_of c.loop-frame.frame c.advance.new.self c.in-Call.name c.in-Call.arg in
+    let made : c.wait.result ≡ caller = waits_as c.wait.result caller.frame caller.call c.wait.ensures.frame c.wait.ensures.call in
     record {
-      under = moved (g.B.Library.programs c.args.lib.now) c.args.budget.now _ c.in_ok-callee-in-Call.callee (caller ∷ reverse c.loop-frame.callers.items) _ c.loop-frame.nodes.items c.loop-frame.nodes.items c.advance.new.budget
-          (top c.push.new.self.items c.loop-frame.callers.items caller c.in_ok-push-in-Call.ensures.items) refl
-          (called (g.B.Library.programs c.args.lib.now) c.args.budget.now _ c.loop-frame.frame c.in_ok-callee-in-Call.callee (reverse c.loop-frame.callers.items) c.loop-frame.nodes.items c.loop-frame.budget c.advance.new.budget
+      under = moved (g.B.Library.programs c.args.lib.now) c.args.budget.now _ c.in_ok-callee-in-Call.callee (caller ∷ reverse c.loop-frame.callers.items) _ c.loop-frame.finished.nodes.items c.loop-frame.finished.nodes.items c.advance.new.budget
+          (pushed c.push.new.self.items c.loop-frame.callers.items c.wait.result caller c.in_ok-push-in-Call.ensures.items made) refl
+          (called (g.B.Library.programs c.args.lib.now) c.args.budget.now _ c.loop-frame.frame c.in_ok-callee-in-Call.callee (reverse c.loop-frame.callers.items) c.loop-frame.finished.nodes.items c.loop-frame.budget c.advance.new.budget
           c.in-Call.name c.in-Call.arg c.in-Some.program.now c.advance.new.self c.loop-frame.invariant.under
           (subst (λ (s : Stop). Advances c.loop-frame.frame.machine c.loop-frame.budget s c.advance.new.budget c.advance.new.self) c.in-Call.is c.in_ok-name.ensures.stops)
           c.in_ok-name.ensures.budget c.in_ok-name.ensures.program (c.in_ok-name.ensures.phase ∙ ap phase_after c.in-Call.is)
@@ -67,8 +83,7 @@ pub loop-frame-smaller-in-Call : goal.loop-frame-smaller-in-Call
 loop-frame-smaller-in-Call g c =
     let fewer = call_costs c.loop-frame.frame.machine c.advance.new.self c.loop-frame.budget c.advance.new.budget c.in-Call.name c.in-Call.arg
     (subst (λ (s : Stop). Advances c.loop-frame.frame.machine c.loop-frame.budget s c.advance.new.budget c.advance.new.self) c.in-Call.is c.in_ok-name.ensures.stops) in
-    let caller : Caller = caller_of c.loop-frame.frame c.advance.new.self c.in-Call.name c.in-Call.arg in
-    let more : length c.push.new.self.items ≡ length c.loop-frame.callers.items + 1 = ap (λ (xs : List Caller). length xs) c.in_ok-push-in-Call.ensures.items ∙ length-append c.loop-frame.callers.items (caller ∷ []) in
+    let more = one_more c.push.new.self.items c.loop-frame.callers.items c.wait.result c.in_ok-push-in-Call.ensures.items in
     omega (arith, fewer, more)
 
 pub returns-in_default-pop-clause-run : goal.returns-in_default-pop-clause-run
@@ -76,23 +91,23 @@ returns-in_default-pop-clause-run g c =
     let e = c.in_default-pop.ensures in
     let left = c.advance.new.budget in
     let used = c.loop-frame.frame.given - left in
-    let u = moved (g.B.Library.programs c.args.lib.now) c.args.budget.now _ c.loop-frame.frame (reverse c.loop-frame.callers.items) [] c.loop-frame.nodes.items c.loop-frame.nodes.items c.loop-frame.budget (nothing c.loop-frame.callers.items c.pop.new.self.items (vec_len c.loop-frame.callers) e.cases.0 e.items e.rest) refl c.loop-frame.invariant.under in
+    let u = moved (g.B.Library.programs c.args.lib.now) c.args.budget.now _ c.loop-frame.frame (reverse c.loop-frame.callers.items) [] c.loop-frame.finished.nodes.items c.loop-frame.finished.nodes.items c.loop-frame.budget (nothing c.loop-frame.callers.items c.pop.new.self.items (vec_len c.loop-frame.callers) e.cases.0 e.items e.rest) refl c.loop-frame.invariant.under in
     let stops = subst (λ (s : Stop). Advances c.loop-frame.frame.machine c.loop-frame.budget s left c.advance.new.self) c.in-Done.is c.in_ok-name.ensures.stops in
     let sum = given_back _ _ _ _ _ _ c.loop-frame.budget left u c.in_ok-name.ensures.budget in
-    if_both c.ended_with.result _ _ _ (λ (run : Run) outcome are. finished (g.B.Library.programs c.args.lib.now) c.args.budget.now _ c.args.name c.args.arg c.loop-frame.frame c.loop-frame.nodes.items c.loop-frame.budget left used
+    if_both c.ended_with.result _ _ _ (λ (run : Run) outcome are. finished (g.B.Library.programs c.args.lib.now) c.args.budget.now _ c.args.name c.args.arg c.loop-frame.frame c.loop-frame.finished.nodes.items c.loop-frame.budget left used
     c.in-Done.value c.advance.new.self run u stops sum outcome are) c.ended_with.ensures.outcome c.ended_with.ensures.nodes
 
 pub go_on-requires-clause-waits : goal.go_on-requires-clause-waits
 go_on-requires-clause-waits g c =
     let above = top c.loop-frame.callers.items c.pop.new.self.items c.in-Some-pop.caller c.in-Some-pop.ensures.items in
-    let waits = caller_waits (g.B.Library.programs c.args.lib.now) c.args.budget.now _ c.loop-frame.frame c.in-Some-pop.caller (reverse c.pop.new.self.items) c.loop-frame.nodes.items c.loop-frame.budget
+    let waits = caller_waits (g.B.Library.programs c.args.lib.now) c.args.budget.now _ c.loop-frame.frame c.in-Some-pop.caller (reverse c.pop.new.self.items) c.loop-frame.finished.nodes.items c.loop-frame.budget
     (moved _ _ _ _ _ _ _ _ _ (sym above) refl c.loop-frame.invariant.under) in
     waits.waits
 
 pub go_on-requires-clause-room : goal.go_on-requires-clause-room
 go_on-requires-clause-room g c =
     let above = top c.loop-frame.callers.items c.pop.new.self.items c.in-Some-pop.caller c.in-Some-pop.ensures.items in
-    let waits = caller_waits (g.B.Library.programs c.args.lib.now) c.args.budget.now _ c.loop-frame.frame c.in-Some-pop.caller (reverse c.pop.new.self.items) c.loop-frame.nodes.items c.loop-frame.budget
+    let waits = caller_waits (g.B.Library.programs c.args.lib.now) c.args.budget.now _ c.loop-frame.frame c.in-Some-pop.caller (reverse c.pop.new.self.items) c.loop-frame.finished.nodes.items c.loop-frame.budget
     (moved _ _ _ _ _ _ _ _ _ (sym above) refl c.loop-frame.invariant.under) in
     omega (arith, waits.room, c.type_inv.limit.fits)
 
@@ -100,16 +115,16 @@ pub loop-frame-preserved : goal.loop-frame-preserved
 loop-frame-preserved g c =
     let above = top c.loop-frame.callers.items c.pop.new.self.items c.in-Some-pop.caller c.in-Some-pop.ensures.items in
     let rest = reverse c.pop.new.self.items in
-    let u = moved (g.B.Library.programs c.args.lib.now) c.args.budget.now _ c.loop-frame.frame (reverse c.loop-frame.callers.items) (c.in-Some-pop.caller ∷ rest) c.loop-frame.nodes.items c.loop-frame.nodes.items c.loop-frame.budget (sym above) refl c.loop-frame.invariant.under in
-    let e = c.in_ok-go_on-in-Done.ensures in
+    let u = moved (g.B.Library.programs c.args.lib.now) c.args.budget.now _ c.loop-frame.frame (reverse c.loop-frame.callers.items) (c.in-Some-pop.caller ∷ rest) c.loop-frame.finished.nodes.items c.loop-frame.finished.nodes.items c.loop-frame.budget (sym above) refl c.loop-frame.invariant.under in
+    let e = c.in_ok-frame-in-Done.ensures in
     record {
-      under = moved (g.B.Library.programs c.args.lib.now) c.args.budget.now _ c.go_on.new.self rest rest _ _ c.advance.new.budget refl c.in_ok-push-in-Done.ensures.items
-          (answered (g.B.Library.programs c.args.lib.now) c.args.budget.now _ c.loop-frame.frame c.go_on.new.self c.in-Some-pop.caller rest c.loop-frame.nodes.items c.end-node.result.0 c.loop-frame.budget c.advance.new.budget (c.loop-frame.frame.given - c.advance.new.budget)
+      under = moved (g.B.Library.programs c.args.lib.now) c.args.budget.now _ c.in_ok-frame-in-Done.frame rest rest _ _ c.advance.new.budget refl c.in_ok-take-in-Done.ensures
+          (answered (g.B.Library.programs c.args.lib.now) c.args.budget.now _ c.loop-frame.frame c.in_ok-frame-in-Done.frame c.in-Some-pop.caller rest c.loop-frame.finished.nodes.items _ c.loop-frame.budget c.advance.new.budget (c.loop-frame.frame.given - c.advance.new.budget)
           c.in-Done.value c.advance.new.self u
           (subst (λ (s : Stop). Advances c.loop-frame.frame.machine c.loop-frame.budget s c.advance.new.budget c.advance.new.self) c.in-Done.is c.in_ok-name.ensures.stops)
           (given_back _ _ _ _ _ _ c.loop-frame.budget c.advance.new.budget u c.in_ok-name.ensures.budget)
           e.answer e.ready e.text e.program e.given e.calls e.below
-          (node_made _ _ _ _ _ _ _ _ c.in-Some-pop.caller.call _ c.end-node.result.0 u c.end-node.ensures.pair c.end-node.ensures.value c.end-node.ensures.own c.end-node.ensures.calls));
+          (node_made _ _ _ _ _ _ _ _ c.in-Some-pop.caller.call _ u));
       within = (let a = c.in_ok-name.ensures.budget in let b = c.loop-frame.invariant.within in omega (arith, a, b));
       limit = refl;
       name = c.loop-frame.invariant.name;
@@ -117,14 +132,14 @@ loop-frame-preserved g c =
 
 pub returns-in-Fault-clause-run : goal.returns-in-Fault-clause-run
 returns-in-Fault-clause-run g c =
-    faulted (g.B.Library.programs c.args.lib.now) c.args.budget.now _ c.args.name c.args.arg c.loop-frame.frame (reverse c.loop-frame.callers.items) c.loop-frame.nodes.items c.loop-frame.budget c.advance.new.budget
+    faulted (g.B.Library.programs c.args.lib.now) c.args.budget.now _ c.args.name c.args.arg c.loop-frame.frame (reverse c.loop-frame.callers.items) c.loop-frame.finished.nodes.items c.loop-frame.budget c.advance.new.budget
     c.in-Fault.kind c.advance.new.self c.failed-in-Fault.result c.loop-frame.invariant.under c.in_ok-name.ensures.budget
     (subst (λ (s : Stop). Advances c.loop-frame.frame.machine c.loop-frame.budget s c.advance.new.budget c.advance.new.self) c.in-Fault.is c.in_ok-name.ensures.stops)
     c.failed-in-Fault.ensures.outcome c.failed-in-Fault.ensures.nodes
 
 pub returns-in-Spent-clause-run : goal.returns-in-Spent-clause-run
 returns-in-Spent-clause-run g c =
-    ran_out (g.B.Library.programs c.args.lib.now) c.args.budget.now _ c.args.name c.args.arg c.loop-frame.frame (reverse c.loop-frame.callers.items) c.loop-frame.nodes.items c.loop-frame.budget c.advance.new.budget
+    ran_out (g.B.Library.programs c.args.lib.now) c.args.budget.now _ c.args.name c.args.arg c.loop-frame.frame (reverse c.loop-frame.callers.items) c.loop-frame.finished.nodes.items c.loop-frame.budget c.advance.new.budget
     c.advance.new.self c.ended.result c.loop-frame.invariant.under c.in_ok-name.ensures.budget
     (subst (λ (s : Stop). Advances c.loop-frame.frame.machine c.loop-frame.budget s c.advance.new.budget c.advance.new.self) c.in-Spent.is c.in_ok-name.ensures.stops)
     c.ended.ensures.outcome c.ended.ensures.nodes
