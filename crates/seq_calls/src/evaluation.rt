@@ -87,7 +87,8 @@ fn run_frames<'a, B: Library>(
                     return Ok(failed(FaultKind::Missing, limit - *budget, finished.nodes));
                 };
                 let callee = begin(alloc, &mut finished.free, program, arg, *budget)?;
-                callers.push(frame.wait(Pair { name, arg }))?;
+                let call = Pair { name, arg };
+                callers.push(Caller { frame, call })?;
                 frame = callee;
             }
             Stop::Done(value) => {
@@ -96,7 +97,8 @@ fn run_frames<'a, B: Library>(
                     return ended_with(frame, name, arg, value, used, finished.nodes);
                 };
                 finished.take(frame, caller.call, value, used)?;
-                frame = caller.go_on(value, used)?;
+                frame = caller.frame;
+                frame.go_on(caller.call, value, used)?;
             }
             Stop::Fault(kind) => return Ok(failed(kind, limit - *budget, finished.nodes)),
             Stop::Spent => return Ok(ended(Outcome::OutOfSteps, finished.nodes)),

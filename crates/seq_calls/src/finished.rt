@@ -62,6 +62,7 @@ impl Finished {
     }
 
     /// Takes the run of a call that ended with a value after so many steps.
+    #[inline(always)]
     pub fn take(
         &mut self,
         callee: Frame<'_>,

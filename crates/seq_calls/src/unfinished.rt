@@ -73,7 +73,7 @@ pub fn begin<'a>(
     })
 }
 
-impl<'a> Frame<'a> {
+impl Frame<'_> {
     /// Takes the frame of a run that has ended apart: the finished run of the name and the argument that the frame was for,
     /// with its value, its steps without those of its callees, and its calls; and the machine, which is free again.
     pub fn end(self, pair: Pair, value: Num, used: u64) -> (NodeRun, Machine)
@@ -98,32 +98,21 @@ impl<'a> Frame<'a> {
         (node, machine)
     }
 
-    /// The run waits for the value of a call.
-    pub fn wait(self, call: Pair) -> Caller<'a>
-        ensures frame { result.frame ≡ self.entry }
-        ensures call { result.call ≡ call }
+    /// Goes on with the value of a call that used so many steps.
+    pub fn go_on(&mut self, call: Pair, value: Num, used: u64) -> Result<(), AllocError>
+        requires waits { self.old.machine.phase ≡ phase.Waiting }
+        requires room { self.old.below + used < 2 ^ 64 }
+        ensures answer { OnOk result (TakesAnswer self.old.machine value self.new.machine) }
+        ensures ready { OnOk result (self.new.machine.phase ≡ phase.Ready) }
+        ensures text { OnOk result (self.new.machine.program ≡ self.old.machine.program) }
+        ensures program { OnOk result (self.new.program.now ≡ self.old.program.now) }
+        ensures given { OnOk result (self.new.given ≡ self.old.given) }
+        ensures calls { OnOk result (self.new.calls.items ≡ self.old.calls.items ++ call ∷ []) }
+        ensures below { OnOk result (self.new.below ≡ self.old.below + used) }
     {
-        Caller { frame: self, call }
-    }
-}
-
-impl<'a> Caller<'a> {
-    /// The run goes on with the value of its call, which used so many steps.
-    pub fn go_on(self, value: Num, used: u64) -> Result<Frame<'a>, AllocError>
-        requires waits { self.frame.machine.phase ≡ phase.Waiting }
-        requires room { self.frame.below + used < 2 ^ 64 }
-        ensures answer { IfOk result (λ frame. TakesAnswer self.entry.frame.machine value frame.machine) }
-        ensures ready { IfOk result (λ frame. frame.machine.phase ≡ phase.Ready) }
-        ensures text { IfOk result (λ frame. frame.machine.program ≡ self.entry.frame.machine.program) }
-        ensures program { IfOk result (λ frame. frame.program.now ≡ self.entry.frame.program.now) }
-        ensures given { IfOk result (λ frame. frame.given ≡ self.entry.frame.given) }
-        ensures calls { IfOk result (λ frame. frame.calls.items ≡ self.entry.frame.calls.items ++ self.entry.call ∷ []) }
-        ensures below { IfOk result (λ frame. frame.below ≡ self.entry.frame.below + used) }
-    {
-        let Caller { mut frame, call } = self;
-        frame.calls.push(call)?;
-        frame.below += used;
-        frame.machine.answer(value);
-        Ok(frame)
+        self.calls.push(call)?;
+        self.below += used;
+        self.machine.answer(value);
+        Ok(())
     }
 }

@@ -8,9 +8,7 @@ use Rattle.std.proofs.lemmas.List.{reverse-append}
 use Rattle.lex_loops.specs.declared.stop.Stop.{Stop}
 use Rattle.lex_loops.specs.State.{Advances, phase_after}
 use Rattle.seq_calls.specs.declared.evaluation.Run.{Run}
-use Rattle.loda_semantics.specs.declared.kinds.Pair.{Pair}
 use Rattle.seq_calls.specs.declared.unfinished.Caller.{Caller}
-use Rattle.seq_calls.specs.declared.unfinished.Frame.{Frame}
 use Rattle.seq_calls.proofs.Costs.{call_costs}
 use Rattle.seq_calls.proofs.Under.{begins, caller_of, called, answered, missing, faulted, ran_out, finished, moved, caller_waits, node_made, given_back}
 use Rattle.seq_calls.proofs.evaluation.run_frames.Goals as goal
@@ -18,10 +16,6 @@ use Rattle.seq_calls.proofs.evaluation.run_frames.Goals as goal
 -- the last caller of the list is the innermost
 top : (callers rest : List Caller) (caller : Caller) → callers ≡ rest ++ caller ∷ [] → reverse callers ≡ caller ∷ reverse rest
 top callers rest caller is = ap (λ (xs : List Caller). reverse xs) is ∙ reverse-append rest (caller ∷ [])
-
--- the one that was pushed is the innermost
-pushed : (callers rest : List Caller) (made caller : Caller) → callers ≡ rest ++ made ∷ [] → made ≡ caller → reverse callers ≡ caller ∷ reverse rest
-pushed callers rest made caller is same = top callers rest caller (is ∙ ap (λ (x : Caller). rest ++ x ∷ []) same)
 
 one_more : (callers rest : List Caller) (made : Caller) → callers ≡ rest ++ made ∷ [] → length callers ≡ length rest + 1
 one_more callers rest made is = ap (λ (xs : List Caller). length xs) is ∙ length-append rest (made ∷ [])
@@ -31,12 +25,6 @@ nothing : (callers rest : List Caller) (n : ℕ) → n ≡ 0 → callers ≡ res
 nothing callers rest n none is left =
     let empty : callers ≡ [] = is ∙ append-nil rest ∙ left ∙ ap (λ (m : ℕ). take (m - 1) callers) none in
     ap (λ (xs : List Caller). reverse xs) (sym empty)
-
--- a caller of what it is made of
-waits_as : (caller : Caller) (frame : Frame) (call : Pair) → caller.frame ≡ frame → caller.call ≡ call → caller ≡ record { frame = frame; call = call }
-waits_as caller frame call same_frame same_call =
-    let C : Frame → Pair → Caller = λ f p. record { frame = f; call = p } in
-    ap (λ (f : Frame). C f caller.call) same_frame ∙ ap (C frame) same_call
 
 -- what two facts of an answer give together
 if_both : {A E : Type 0} (r : Result A E) (P Q R : A → Type 0) → ((a : A) → P a → Q a → R a) → IfOk r P → IfOk r Q → IfOk r R
@@ -65,10 +53,9 @@ pub loop-frame-preserved-in-Call : goal.loop-frame-preserved-in-Call
 loop-frame-preserved-in-Call g c =
     let e = c.in_ok-callee-in-Call.ensures in
     let caller : Caller = caller_of c.loop-frame.frame c.advance.new.self c.in-Call.name c.in-Call.arg in
-    let made : c.wait.result ≡ caller = waits_as c.wait.result caller.frame caller.call c.wait.ensures.frame c.wait.ensures.call in
     record {
       under = moved (g.B.Library.programs c.args.lib.now) c.args.budget.now _ c.in_ok-callee-in-Call.callee (caller ∷ reverse c.loop-frame.callers.items) _ c.loop-frame.finished.nodes.items c.loop-frame.finished.nodes.items c.advance.new.budget
-          (pushed c.push.new.self.items c.loop-frame.callers.items c.wait.result caller c.in_ok-push-in-Call.ensures.items made) refl
+          (top c.push.new.self.items c.loop-frame.callers.items caller c.in_ok-push-in-Call.ensures.items) refl
           (called (g.B.Library.programs c.args.lib.now) c.args.budget.now _ c.loop-frame.frame c.in_ok-callee-in-Call.callee (reverse c.loop-frame.callers.items) c.loop-frame.finished.nodes.items c.loop-frame.budget c.advance.new.budget
           c.in-Call.name c.in-Call.arg c.in-Some.program.now c.advance.new.self c.loop-frame.invariant.under
           (subst (λ (s : Stop). Advances c.loop-frame.frame.machine c.loop-frame.budget s c.advance.new.budget c.advance.new.self) c.in-Call.is c.in_ok-name.ensures.stops)
@@ -83,7 +70,7 @@ pub loop-frame-smaller-in-Call : goal.loop-frame-smaller-in-Call
 loop-frame-smaller-in-Call g c =
     let fewer = call_costs c.loop-frame.frame.machine c.advance.new.self c.loop-frame.budget c.advance.new.budget c.in-Call.name c.in-Call.arg
     (subst (λ (s : Stop). Advances c.loop-frame.frame.machine c.loop-frame.budget s c.advance.new.budget c.advance.new.self) c.in-Call.is c.in_ok-name.ensures.stops) in
-    let more = one_more c.push.new.self.items c.loop-frame.callers.items c.wait.result c.in_ok-push-in-Call.ensures.items in
+    let more = one_more c.push.new.self.items c.loop-frame.callers.items (caller_of c.loop-frame.frame c.advance.new.self c.in-Call.name c.in-Call.arg) c.in_ok-push-in-Call.ensures.items in
     omega (arith, fewer, more)
 
 pub returns-in_default-pop-clause-run : goal.returns-in_default-pop-clause-run
@@ -116,10 +103,10 @@ loop-frame-preserved g c =
     let above = top c.loop-frame.callers.items c.pop.new.self.items c.in-Some-pop.caller c.in-Some-pop.ensures.items in
     let rest = reverse c.pop.new.self.items in
     let u = moved (g.B.Library.programs c.args.lib.now) c.args.budget.now _ c.loop-frame.frame (reverse c.loop-frame.callers.items) (c.in-Some-pop.caller ∷ rest) c.loop-frame.finished.nodes.items c.loop-frame.finished.nodes.items c.loop-frame.budget (sym above) refl c.loop-frame.invariant.under in
-    let e = c.in_ok-frame-in-Done.ensures in
+    let e = c.in_ok-go_on-in-Done.ensures in
     record {
-      under = moved (g.B.Library.programs c.args.lib.now) c.args.budget.now _ c.in_ok-frame-in-Done.frame rest rest _ _ c.advance.new.budget refl c.in_ok-take-in-Done.ensures
-          (answered (g.B.Library.programs c.args.lib.now) c.args.budget.now _ c.loop-frame.frame c.in_ok-frame-in-Done.frame c.in-Some-pop.caller rest c.loop-frame.finished.nodes.items _ c.loop-frame.budget c.advance.new.budget (c.loop-frame.frame.given - c.advance.new.budget)
+      under = moved (g.B.Library.programs c.args.lib.now) c.args.budget.now _ c.go_on.new.self rest rest _ _ c.advance.new.budget refl c.in_ok-take-in-Done.ensures
+          (answered (g.B.Library.programs c.args.lib.now) c.args.budget.now _ c.loop-frame.frame c.go_on.new.self c.in-Some-pop.caller rest c.loop-frame.finished.nodes.items _ c.loop-frame.budget c.advance.new.budget (c.loop-frame.frame.given - c.advance.new.budget)
           c.in-Done.value c.advance.new.self u
           (subst (λ (s : Stop). Advances c.loop-frame.frame.machine c.loop-frame.budget s c.advance.new.budget c.advance.new.self) c.in-Done.is c.in_ok-name.ensures.stops)
           (given_back _ _ _ _ _ _ c.loop-frame.budget c.advance.new.budget u c.in_ok-name.ensures.budget)
