@@ -1,7 +1,14 @@
 pub mod Paths
 pub mod Sets
 pub mod Closing
+pub mod Upward
 pub mod Barren
 pub mod Loops
-pub mod Gather
-pub mod Clearing
+pub mod Turning
+pub mod Joining
+pub mod Following
+pub mod Trails
+pub mod Entering
+pub mod Leaving
+pub mod Ending
+pub mod Walking

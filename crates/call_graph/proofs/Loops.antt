@@ -1,4 +1,4 @@
--- What the loops over published names need.
+-- What the loops over published names need, and callers of `first_through`.
 use Rattle.std.proofs.Common.{ℕ, ◌≡◌, ◌<◌, ◌≤◌, ◌↔◌, inl, inr, refl, sym, subst, ◌∙◌, ◌∷◌, Contains, arith, IsTrue, IfSome, IfNone}
 use Rattle.std.specs.declared.option.Option.{Option}
 use Rattle.std.specs.declared.option.Option.TheVariants.{Some, None}

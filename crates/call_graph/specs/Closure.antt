@@ -3,7 +3,11 @@ use Rattle.std.specs.Prelude.{ℕ, ◌≡◌, ◌<◌, List, Contains}
 use Rattle.std.specs.declared.option.Option.TheVariants.{Some}
 use Rattle.loda_syntax.specs.Programs.{Text}
 use Rattle.loda_semantics.specs.Exec.{Library}
-use Rattle.program_store.specs.Graph.{calls_of, Reaches, CallsReach, OnCycle}
+use Rattle.program_store.specs.Graph.{calls_of, Reaches, CallsReach}
+
+-- the name has a program that calls the other name
+abbrev pub Calls : Library → ℕ → ℕ → Type 0
+Calls lib from to = (p : Text) × (lib from ≡ Some p) × Contains (calls_of p) to
 
 -- the name has a program, and some call of it reaches the other name
 abbrev pub ReachesByCall : Library → ℕ → ℕ → Type 0
@@ -24,8 +28,3 @@ IsLeast P q = P q × ((k : ℕ) → k < q → P k → ⊥)
 -- some name on the list reaches q
 abbrev pub ReachedFrom : Library → List ℕ → ℕ → Type 0
 ReachedFrom lib names q = (s : ℕ) × Contains names s × Reaches lib s q
-
--- the list has what its names call, and none of them is on a cycle
-pub record IsClear (lib : Library) (names : List ℕ) : Type 0 where
-  pub closed : IsClosed lib names
-  pub apart : (q : ℕ) → Contains names q → OnCycle lib q → ⊥

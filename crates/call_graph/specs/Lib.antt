@@ -1,1 +1,4 @@
 pub mod Closure
+pub mod Callers
+pub mod Groups
+pub mod Walks

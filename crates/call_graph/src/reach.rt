@@ -1,11 +1,12 @@
 //! What reaches what.
 
-ghost use Rattle.std.specs.Prelude.{ℕ, ◌≡◌, ◌↔◌, Contains, IfOk, IfSome, IfNone, IsTrue};
+ghost use Rattle.std.specs.Prelude.{ℕ, ◌≡◌, ◌↔◌, Contains, IfOk, IfSome, IfNone};
 ghost use Rattle.std.specs.List.Sorted.{IsStrictlyIncreasing};
 ghost use Rattle.program_store.specs.Store.{programs_of};
 ghost use Rattle.program_store.specs.Graph.{calls_of, Reaches, CallsReach, FirstWith};
 ghost use Rattle.call_graph.specs.Closure.{ReachesByCall};
 
+use crate::callers::{add_callers, callers};
 use crate::closure::{add_calls, called_names, close};
 use indexmap::IndexSet;
 use loda_syntax::Program;
@@ -36,6 +37,16 @@ pub fn first_through<B: Library>(
     Ok(None)
 }
 
+/// The names of a set, ascending.
+fn ascending(alloc: Global, names: &IndexSet<u32>) -> Result<Vec<u32>, AllocError>
+    ensures ascending { IfOk result (λ sorted. IsStrictlyIncreasing sorted.items) }
+    ensures exact { IfOk result (λ sorted. (q : ℕ) → Contains sorted.items q ↔ Contains names.now.keys q) }
+{
+    let mut sorted = Vec::from_slice(alloc, names.as_slice())?;
+    sorted.sort()?;
+    Ok(sorted)
+}
+
 /// All names that the program's calls reach, ascending.
 pub fn descendants<B: Library>(
     alloc: Global,
@@ -48,41 +59,22 @@ pub fn descendants<B: Library>(
     let mut reached = IndexSet::new(alloc);
     add_calls(&mut reached, program)?;
     close(lib, &mut reached, 0)?;
-    let mut names = Vec::from_slice(alloc, reached.as_slice())?;
-    names.sort()?;
-    Ok(names)
+    ascending(alloc, &reached)
 }
 
-/// Whether the name has a program, and some call of it reaches the other name.
-pub fn reaches_by_call<V: View>(
-    alloc: Global,
-    view: &V,
-    from: u32,
-    to: u32,
-) -> Result<bool, AllocError>
-    ensures { IfOk result (λ reaches. IsTrue reaches ↔ ReachesByCall (programs_of (V.store view.now)) from to) }
-{
-    match view.program(from) {
-        Some(program) => {
-            let first = first_through(alloc, view, program, to)?;
-            Ok(first.is_some())
-        }
-        None => Ok(false),
-    }
-}
-
-/// All published names that reach `name` by at least one call, ascending.
+/// All published names that reach `name` by at least one call, ascending. Each published name is visited once.
 pub fn ancestors<V: View>(alloc: Global, view: &V, name: u32) -> Result<Vec<u32>, AllocError>
     ensures ascending { IfOk result (λ names. IsStrictlyIncreasing names.items) }
     ensures exact { IfOk result (λ names. (q : ℕ) → Contains names.items q ↔ ReachesByCall (programs_of (V.store view.now)) q name) }
 {
-    let mut names = Vec::new(alloc);
-    let mut after = 0;
-    while let Some(next) = view.next_name(after) {
-        if reaches_by_call(alloc, view, next, name)? {
-            names.push(next)?;
-        }
-        after = next;
+    let callers = callers(alloc, view)?;
+    let mut above = IndexSet::new(alloc);
+    add_callers(&mut above, &callers, name)?;
+    let mut next = 0;
+    while next < above.len() {
+        let caller = above.as_slice()[next];
+        add_callers(&mut above, &callers, caller)?;
+        next += 1;
     }
-    Ok(names)
+    ascending(alloc, &above)
 }

@@ -30,7 +30,19 @@ const CHAIN: &str =
 const TANGLED: &str =
     "= A000003 8\nseq $0,9\nseq $1,7\nseq $0,9\n= A000005 8\nseq $0,3\n= A000007 8\nseq $0,8\n= A000008 8\nseq $0,12\nseq $0,7\n= A000009 8\n";
 
-const ROWS: [Row; 9] = [
+// Two ways from the first name to the last, one of them through a name that calls the last twice.
+const DIAMOND: &str =
+    "= A000002 8\nseq $0,4\nseq $1,7\n= A000004 8\nseq $0,9\nseq $1,9\n= A000007 8\nseq $0,9\n= A000009 8\nadd $0,1\n";
+
+// Two cycles, and below both a name that lies on a way from one to the other and is on neither.
+const BETWEEN: &str =
+    "= A000004 8\nseq $0,8\n= A000005 8\nseq $0,6\n= A000006 8\nseq $0,4\nseq $0,5\n= A000008 8\nseq $0,9\n= A000009 8\nseq $0,8\n";
+
+// A name that calls itself, less than those of a cycle that is found before it.
+const LATER: &str =
+    "= A000001 8\nseq $0,5\n= A000003 8\nseq $0,3\n= A000005 8\nseq $0,6\n= A000006 8\nseq $0,7\n= A000007 8\nseq $0,5\nseq $0,6\n";
+
+const ROWS: [Row; 12] = [
     Row {
         text: SQUARE,
         cycle: None,
@@ -111,6 +123,33 @@ const ROWS: [Row; 9] = [
         target: 12,
         descendants: &[7, 8, 12],
         ancestors: &[3, 5, 7, 8],
+    },
+    Row {
+        text: DIAMOND,
+        cycle: None,
+        name: 9,
+        first: None,
+        target: 2,
+        descendants: &[],
+        ancestors: &[2, 4, 7],
+    },
+    Row {
+        text: BETWEEN,
+        cycle: Some(5),
+        name: 4,
+        first: Some(8),
+        target: 9,
+        descendants: &[8, 9],
+        ancestors: &[5, 6],
+    },
+    Row {
+        text: LATER,
+        cycle: Some(3),
+        name: 6,
+        first: Some(7),
+        target: 5,
+        descendants: &[5, 6, 7],
+        ancestors: &[1, 5, 6, 7],
     },
 ];
 

@@ -1,14 +1,14 @@
-use Rattle.std.proofs.Common.{ℕ, ◌-◌, ◌≤◌}
+use Rattle.std.proofs.Common.{ℕ, ◌-◌, ◌≤◌, Contains}
 use Rattle.program_store.specs.Store.{programs_of}
 use Rattle.program_store.specs.Graph.{OnCycle}
-use Rattle.call_graph.specs.Closure.{IsClear}
+use Rattle.call_graph.specs.Walks.{IsSettled}
 use Rattle.call_graph.proofs.cycles.cycle.Given as goal
 
 abbrev pub invariant-loop-name : goal.invariant-loop-name
 invariant-loop-name g l = record {
   named : l.after ≤ 999999;
-  none : (k : ℕ) → 1 ≤ k → k ≤ l.after → OnCycle (programs_of (g.V.View.store l.view)) k → ⊥;
-  clear : IsClear (programs_of (g.V.View.store l.view)) l.clear.keys;
+  done : (k : ℕ) → 1 ≤ k → k ≤ l.after → OnCycle (programs_of (g.V.View.store l.view)) k → Contains l.walk.done.keys k;
+  settled : IsSettled (programs_of (g.V.View.store l.view)) l.walk;
 }
 
 abbrev pub decreases-loop-name : goal.decreases-loop-name

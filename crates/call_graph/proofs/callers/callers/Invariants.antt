@@ -1,0 +1,10 @@
+use Rattle.std.proofs.Common.{◌-◌}
+use Rattle.call_graph.specs.Callers.{names_under}
+use Rattle.call_graph.proofs.Turning.{IsTurned}
+use Rattle.call_graph.proofs.callers.callers.Given as goal
+
+abbrev pub invariant-loop-caller : goal.invariant-loop-caller
+invariant-loop-caller g l = IsTurned (g.V.View.store l.view) (names_under l.callers) l.after
+
+abbrev pub decreases-loop-caller : goal.decreases-loop-caller
+decreases-loop-caller g l = 999999 - l.after
