@@ -1,13 +1,11 @@
 //! The runs of a name before and after a replacement.
 
 ghost use Rattle.std.specs.Prelude.{◌≡◌, ◌↔◌, IsTrue, IfOk};
-ghost use Rattle.seq_calls.specs.Frames.{told};
-ghost use Rattle.judge.specs.Passed.{outcome};
 ghost use Rattle.judge.specs.Changes.{runs_at, SameValue, OtherValue, MoreSteps, SameSteps, IsLesser, IsNext};
 
 use checked_numbers::Num;
-use program_store::{Library, Overlay, Proposal, View};
-use seq_calls::{Outcome, evaluate_alone};
+use program_store::{Overlay, Proposal, View};
+use seq_calls::{Outcome, outcome_alone};
 use std::alloc::{AllocError, Global};
 
 /// What a run came to with the old program, and what it comes to with the new one.
@@ -39,20 +37,6 @@ pub struct Changes {
     pub more_steps: Option<Changed>,
 }
 
-// What a name comes to at an argument.
-fn outcome_in<B: Library>(
-    alloc: Global,
-    lib: &B,
-    name: u32,
-    at: Num,
-    limit: u64,
-) -> Result<Outcome, AllocError>
-    ensures { IfOk result (λ o. o ≡ told (outcome (B.programs lib.now) name at limit)) }
-{
-    let run = evaluate_alone(alloc, lib, name, at, limit)?;
-    Ok(run.outcome)
-}
-
 /// The runs of the proposed name at an argument.
 pub fn both_runs<V: View>(
     alloc: Global,
@@ -68,8 +52,8 @@ pub fn both_runs<V: View>(
         name: proposal.name,
         program: &proposal.program,
     };
-    let with_old = outcome_in(alloc, view, proposal.name, at, limit)?;
-    let with_new = outcome_in(alloc, &after, proposal.name, at, limit)?;
+    let with_old = outcome_alone(alloc, view, proposal.name, at, limit)?;
+    let with_new = outcome_alone(alloc, &after, proposal.name, at, limit)?;
     Ok(BothRuns { with_old, with_new })
 }
 

@@ -7,7 +7,7 @@ use crate::answer::Got;
 use checked_numbers::Num;
 use loda_semantics::FaultKind;
 use program_store::Library;
-use seq_calls::{Outcome, evaluate_alone};
+use seq_calls::{Outcome, outcome_alone};
 use std::alloc::{AllocError, Global};
 
 /// What was got of a run.
@@ -60,8 +60,8 @@ pub fn first_miss<B: Library>(
 {
     let mut index = 0;
     for term in terms {
-        let run = evaluate_alone(alloc, lib, name, number_of(index), limit)?;
-        if let Some(got) = missed(run.outcome, *term) {
+        let outcome = outcome_alone(alloc, lib, name, number_of(index), limit)?;
+        if let Some(got) = missed(outcome, *term) {
             return Ok((index, Some(got)));
         }
         index += 1;

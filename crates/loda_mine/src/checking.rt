@@ -17,7 +17,7 @@ use itoa::Buffer;
 use judge::check_store;
 use loda_semantics::FaultKind;
 use program_store::{Store, View};
-use seq_calls::{Outcome, evaluate_alone};
+use seq_calls::{Outcome, outcome_alone};
 use std::alloc::{AllocError, Global};
 
 // Adds a word and a count.
@@ -102,9 +102,9 @@ fn outcome_of(
 ) -> Result<Vec<u8>, AllocError>
     ensures { IfOk result (λ output. output.items ≡ outcome_text (told (run_name (programs_of store.now) name arg limit).0)) }
 {
-    let run = evaluate_alone(alloc, store, name, arg, limit)?;
+    let outcome = outcome_alone(alloc, store, name, arg, limit)?;
     let mut output = Vec::new(alloc);
-    write_outcome(&mut output, run.outcome)?;
+    write_outcome(&mut output, outcome)?;
     Ok(output)
 }
 

@@ -1,5 +1,5 @@
 -- What holds while frames run.
-use Rattle.std.proofs.Common.{ℕ, ◌+◌, ◌-◌, ◌≤◌, ◌≡◌, refl, sym, ap, subst, ◌∙◌, arith, ℤ, List, [], ◌∷◌, ◌++◌, append_assoc, append-nil}
+use Rattle.std.proofs.Common.{ℕ, ◌+◌, ◌-◌, ◌≤◌, ◌≡◌, refl, sym, ap, subst, ◌∙◌, arith, ℤ, Bool, IsTrue, List, [], ◌∷◌, ◌++◌, append_assoc, append-nil}
 use Rattle.std.specs.declared.option.Option.{Option}
 use Rattle.std.specs.declared.option.Option.TheVariants.{Some, None}
 use Rattle.loda_syntax.specs.Programs.{Text}
@@ -16,73 +16,73 @@ use Rattle.seq_calls.specs.declared.unfinished.Caller.{Caller}
 use Rattle.seq_calls.specs.declared.outcomes.NodeRun.{NodeRun}
 use Rattle.seq_calls.specs.declared.outcomes.Outcome.TheVariants as told_as
 use Rattle.seq_calls.specs.declared.evaluation.Run.{Run}
-use Rattle.seq_calls.specs.Frames.{pair, direct, steps_below, nodes_in, node_of, told, steps_of}
-use Rattle.seq_calls.specs.Under.{own_node, ended_run, named_run, IsRun}
+use Rattle.seq_calls.specs.Frames.{pair, direct, steps_below, nodes_in, node_of, told, steps_of, nodes_of}
+use Rattle.seq_calls.specs.Under.{ended_run, named_run, IsRun}
 use Rattle.seq_calls.proofs.Joined.{join-none, after-none, direct_join, steps_join, nodes_join}
 use Rattle.seq_calls.proofs.Unwind.{Waiting, unwind, nodes_before, AreGiven, push_call, missing_call, pop_value, unwind_failed, unwind_spent}
 
 -- a frame that has made these calls, and has so many steps left
-pub record Stands (f : Frame) (before : Calls) (left : ℕ) : Type 0 where
+pub record Stands (kept : Bool) (f : Frame) (before : Calls) (left : ℕ) : Type 0 where
   pub text : f.machine.program ≡ f.program.now
-  pub calls : f.calls.items ≡ direct before
+  pub calls : IsTrue kept → f.calls.items ≡ direct before
   pub below : f.below ≡ steps_below before
   pub within : f.below + left ≤ f.given
 
 -- the callers of a run that was given so many steps, the innermost first, and the calls that each has made; the outermost
 -- run has the whole limit
-abbrev pub Wait : ℕ → ℕ → List Caller → List Calls → Type 0
-Wait limit given [] [] = given ≡ limit
-Wait limit given (f ∷ fs) (b ∷ bs) = Stands f.frame b given × (f.frame.machine.phase ≡ IsWaiting) × Wait limit f.frame.given fs bs
-Wait limit given fs bs = ⊥
+abbrev pub Wait : Bool → ℕ → ℕ → List Caller → List Calls → Type 0
+Wait kept limit given [] [] = given ≡ limit
+Wait kept limit given (f ∷ fs) (b ∷ bs) = Stands kept f.frame b given × (f.frame.machine.phase ≡ IsWaiting) × Wait kept limit f.frame.given fs bs
+Wait kept limit given fs bs = ⊥
 
 abbrev pub waiting : ℕ → List Caller → List Calls → List Waiting
 waiting given (f ∷ fs) (b ∷ bs) = record { state = f.frame.machine; before = b; name = f.call.name; arg = f.call.arg; given = given } ∷ waiting f.frame.given fs bs
 waiting given fs bs = []
 
 -- The frames stand for the rest of the outermost run, which comes to `ran` in the end.
-pub record IsUnder (lib : Library) (limit : ℕ) (ran : Outcome × Calls) (frame : Frame) (callers : List Caller) (nodes : List NodeRun) (left : ℕ) : Type 0 where
+pub record IsUnder (lib : Library) (kept : Bool) (limit : ℕ) (ran : Outcome × Calls) (frame : Frame) (callers : List Caller) (nodes : List NodeRun) (left : ℕ) : Type 0 where
   pub before : Calls
   pub befores : List Calls
   pub ready : frame.machine.phase ≡ Ready
-  pub stands : Stands frame before left
-  pub wait : Wait limit frame.given callers befores
-  pub nodes_are : nodes ≡ nodes_before (waiting frame.given callers befores) ++ nodes_in before
+  pub stands : Stands kept frame before left
+  pub wait : Wait kept limit frame.given callers befores
+  pub nodes_are : IsTrue kept → nodes ≡ nodes_before (waiting frame.given callers befores) ++ nodes_in before
   pub run : outcome_of limit (unwind lib (waiting frame.given callers befores) (after_calls before (run_on (run_name lib) frame.machine left))) ≡ ran
 
 -- where a run begins
-pub begins : (lib : Library) (limit : ℕ) (x : ℤ) (p : Text) (frame : Frame) → Begins frame.machine p x → frame.machine.program ≡ p → frame.machine.phase ≡ Ready
-    → frame.program.now ≡ p → frame.given ≡ limit → frame.calls.items ≡ [] → frame.below ≡ 0 → IsUnder lib limit (run_text lib p x limit) frame [] [] limit
-begins lib limit x p frame start text ready program given calls below = record {
+pub begins : (lib : Library) (kept : Bool) (limit : ℕ) (x : ℤ) (p : Text) (frame : Frame) → Begins frame.machine p x → frame.machine.program ≡ p → frame.machine.phase ≡ Ready
+    → frame.program.now ≡ p → frame.given ≡ limit → frame.calls.items ≡ [] → frame.below ≡ 0 → IsUnder lib kept limit (run_text lib p x limit) frame [] [] limit
+begins lib kept limit x p frame start text ready program given calls below = record {
   before = none;
   befores = [];
   ready = ready;
   stands = record {
     text = text ∙ sym program;
-    calls = calls;
+    calls = λ k. calls;
     below = below;
     within = omega (arith, below, given);
   };
   wait = given;
-  nodes_are = refl;
+  nodes_are = λ k. refl;
   run = ap (outcome_of limit) (after-none (run_on (run_name lib) frame.machine limit) ∙ start (run_name lib) limit) ∙ sym (run_text-is lib p x limit);
 }
 
 -- every caller was given at least what is left
-given_left : (limit left given : ℕ) (callers : List Caller) (befores : List Calls) → left ≤ given → Wait limit given callers befores → AreGiven left (waiting given callers befores)
-given_left limit left given [] [] le w = tt
-given_left limit left given [] (b ∷ bs) le w = tt
-given_left limit left given (f ∷ fs) [] le w = tt
-given_left limit left given (f ∷ fs) (b ∷ bs) le w = (le, given_left limit left f.frame.given fs bs (let h = w.0.within in omega (arith, h)) w.2)
+given_left : (kept : Bool) (limit left given : ℕ) (callers : List Caller) (befores : List Calls) → left ≤ given → Wait kept limit given callers befores → AreGiven left (waiting given callers befores)
+given_left kept limit left given [] [] le w = tt
+given_left kept limit left given [] (b ∷ bs) le w = tt
+given_left kept limit left given (f ∷ fs) [] le w = tt
+given_left kept limit left given (f ∷ fs) (b ∷ bs) le w = (le, given_left kept limit left f.frame.given fs bs (let h = w.0.within in omega (arith, h)) w.2)
 
-left_within : (limit left given : ℕ) (callers : List Caller) (befores : List Calls) → left ≤ given → Wait limit given callers befores → left ≤ limit
-left_within limit left given [] [] le w = omega (arith, w)
-left_within limit left given [] (b ∷ bs) le w = absurd w
-left_within limit left given (f ∷ fs) [] le w = absurd w
-left_within limit left given (f ∷ fs) (b ∷ bs) le w = left_within limit left f.frame.given fs bs (let h = w.0.within in omega (arith, h)) w.2
+left_within : (kept : Bool) (limit left given : ℕ) (callers : List Caller) (befores : List Calls) → left ≤ given → Wait kept limit given callers befores → left ≤ limit
+left_within kept limit left given [] [] le w = omega (arith, w)
+left_within kept limit left given [] (b ∷ bs) le w = absurd w
+left_within kept limit left given (f ∷ fs) [] le w = absurd w
+left_within kept limit left given (f ∷ fs) (b ∷ bs) le w = left_within kept limit left f.frame.given fs bs (let h = w.0.within in omega (arith, h)) w.2
 
 -- what is left of the limit
-pub under_limit : (lib : Library) (limit : ℕ) (ran : Outcome × Calls) (frame : Frame) (callers : List Caller) (nodes : List NodeRun) (left : ℕ) → IsUnder lib limit ran frame callers nodes left → left ≤ limit
-under_limit lib limit ran frame callers nodes left h = left_within limit left frame.given callers h.befores (let w = h.stands.within in omega (arith, w)) h.wait
+pub under_limit : (lib : Library) (kept : Bool) (limit : ℕ) (ran : Outcome × Calls) (frame : Frame) (callers : List Caller) (nodes : List NodeRun) (left : ℕ) → IsUnder lib kept limit ran frame callers nodes left → left ≤ limit
+under_limit lib kept limit ran frame callers nodes left h = left_within kept limit left frame.given callers h.befores (let w = h.stands.within in omega (arith, w)) h.wait
 
 -- ---- a call
 
@@ -91,13 +91,13 @@ abbrev pub caller_of : Frame → State → ℕ → ℤ → Caller
 caller_of frame new r y = record { frame = record frame { machine = new }; call = record { name = r; arg = y } }
 
 -- a call of a name that is there
-pub called : (lib : Library) (limit : ℕ) (ran : Outcome × Calls) (frame callee : Frame) (callers : List Caller) (nodes : List NodeRun) (n left r : ℕ) (y : ℤ) (p : Text) (new : State)
-    → IsUnder lib limit ran frame callers nodes n → Advances frame.machine n (stop.Call r y) left new → left ≤ n
+pub called : (lib : Library) (kept : Bool) (limit : ℕ) (ran : Outcome × Calls) (frame callee : Frame) (callers : List Caller) (nodes : List NodeRun) (n left r : ℕ) (y : ℤ) (p : Text) (new : State)
+    → IsUnder lib kept limit ran frame callers nodes n → Advances frame.machine n (stop.Call r y) left new → left ≤ n
     → new.program ≡ frame.machine.program → new.phase ≡ IsWaiting
     → lib r ≡ Some p → Begins callee.machine p y → callee.machine.program ≡ p → callee.machine.phase ≡ Ready → callee.program.now ≡ p
     → callee.given ≡ left → callee.calls.items ≡ [] → callee.below ≡ 0
-    → IsUnder lib limit ran callee (caller_of frame new r y ∷ callers) nodes left
-called lib limit ran frame callee callers nodes n left r y p new u adv le text waits here start begun ready program given calls below =
+    → IsUnder lib kept limit ran callee (caller_of frame new r y ∷ callers) nodes left
+called lib kept limit ran frame callee callers nodes n left r y p new u adv le text waits here start begun ready program given calls below =
     let st = u.stands in
     let ws = waiting frame.given callers u.befores in
     let W : ℕ → List Waiting = λ (g : ℕ). record { state = new; before = u.before; name = r; arg = y; given = g } ∷ ws in
@@ -107,12 +107,12 @@ called lib limit ran frame callee callers nodes n left r y p new u adv le text w
       ready = ready;
       stands = record {
         text = begun ∙ sym program;
-        calls = calls;
+        calls = λ k. calls;
         below = below;
         within = omega (arith, below, given);
       };
       wait = (record { text = text ∙ st.text; calls = st.calls; below = st.below; within = (let w = st.within in omega (arith, w, given, le)) }, waits, u.wait);
-      nodes_are = u.nodes_are ∙ sym (append-nil _);
+      nodes_are = λ k. u.nodes_are k ∙ sym (append-nil _);
       run = ap (λ (g : ℕ). outcome_of limit (unwind lib (W g) (after_calls none (run_on (run_name lib) callee.machine left)))) given
           ∙ ap (λ (e : Ending). outcome_of limit (unwind lib (W left) e)) (after-none _)
           ∙ sym (ap (outcome_of limit) (push_call lib ws u.before frame.machine new callee.machine n left r y p adv here start)) ∙ u.run;
@@ -134,17 +134,17 @@ node_is p before v used node h =
     ∙ ap (λ (o : ℕ). N p v o node.calls) h.own ∙ ap (N p v (used - steps_below before)) h.calls
 
 -- the innermost run ends with a value, and its caller goes on
-pub answered : (lib : Library) (limit : ℕ) (ran : Outcome × Calls) (frame next : Frame) (caller : Caller) (callers : List Caller) (nodes : List NodeRun) (node : NodeRun) (n left used : ℕ) (v : ℤ) (new : State)
-    → (u : IsUnder lib limit ran frame (caller ∷ callers) nodes n) → Advances frame.machine n (stop.Done v) left new → used + left ≡ frame.given
+pub answered : (lib : Library) (kept : Bool) (limit : ℕ) (ran : Outcome × Calls) (frame next : Frame) (caller : Caller) (callers : List Caller) (nodes : List NodeRun) (node : NodeRun) (n left used : ℕ) (v : ℤ) (new : State)
+    → (u : IsUnder lib kept limit ran frame (caller ∷ callers) nodes n) → Advances frame.machine n (stop.Done v) left new → used + left ≡ frame.given
     → TakesAnswer caller.frame.machine v next.machine → next.machine.phase ≡ Ready → next.machine.program ≡ caller.frame.machine.program → next.program.now ≡ caller.frame.program.now
-    → next.given ≡ caller.frame.given → next.calls.items ≡ caller.frame.calls.items ++ caller.call ∷ [] → next.below ≡ caller.frame.below + used
-    → IsNode caller.call u.before v used node
-    → IsUnder lib limit ran next callers (nodes ++ node ∷ []) left
-answered lib limit ran frame next caller callers nodes node n left used v new u adv sum takes ready text program given calls below is_node = by_befores u.befores u.wait u.nodes_are u.run
+    → next.given ≡ caller.frame.given → (IsTrue kept → next.calls.items ≡ caller.frame.calls.items ++ caller.call ∷ []) → next.below ≡ caller.frame.below + used
+    → (IsTrue kept → IsNode caller.call u.before v used node) → (more : List NodeRun) → (IsTrue kept → more ≡ nodes ++ node ∷ [])
+    → IsUnder lib kept limit ran next callers more left
+answered lib kept limit ran frame next caller callers nodes node n left used v new u adv sum takes ready text program given calls below is_node more grown = by_befores u.befores u.wait u.nodes_are u.run
   where
-    by_befores : (bs : List Calls) → Wait limit frame.given (caller ∷ callers) bs → nodes ≡ nodes_before (waiting frame.given (caller ∷ callers) bs) ++ nodes_in u.before
+    by_befores : (bs : List Calls) → Wait kept limit frame.given (caller ∷ callers) bs → (IsTrue kept → nodes ≡ nodes_before (waiting frame.given (caller ∷ callers) bs) ++ nodes_in u.before)
         → outcome_of limit (unwind lib (waiting frame.given (caller ∷ callers) bs) (after_calls u.before (run_on (run_name lib) frame.machine n))) ≡ ran
-        → IsUnder lib limit ran next callers (nodes ++ node ∷ []) left
+        → IsUnder lib kept limit ran next callers more left
     by_befores [] w nodes_are run = absurd w
     by_befores (b ∷ bs) w nodes_are run =
         let q = caller.call.name in
@@ -155,22 +155,22 @@ answered lib limit ran frame next caller callers nodes node n left used v new u 
         let made : Calls = call q x (value v used) inner none in
         let popped = pop_value lib f fs u.before frame.machine next.machine new n left v adv used sum takes in
         let same : waiting next.given callers bs ≡ fs = ap (λ (g : ℕ). waiting g callers bs) given in
-        let node_list : node ∷ [] ≡ node_of q x (value v used) inner = node_is caller.call u.before v used node is_node ∙ ap (node_of q x (value v used)) (sym (join-none u.before)) in
+        let node_list : IsTrue kept → node ∷ [] ≡ node_of q x (value v used) inner = λ k. node_is caller.call u.before v used node (is_node k) ∙ ap (node_of q x (value v used)) (sym (join-none u.before)) in
         record {
           before = join b made;
           befores = bs;
           ready = ready;
           stands = record {
             text = text ∙ w.0.text ∙ sym program;
-            calls = calls ∙ ap (λ (ps : List Pair). ps ++ caller.call ∷ []) w.0.calls ∙ sym (direct_join b made);
+            calls = λ k. calls k ∙ ap (λ (ps : List Pair). ps ++ caller.call ∷ []) (w.0.calls k) ∙ sym (direct_join b made);
             below = (let j = steps_join b made in let bb = w.0.below in omega (arith, j, bb, below));
             within = (let ww = w.0.within in omega (arith, ww, below, given, sum));
           };
-          wait = subst (λ (g : ℕ). Wait limit g callers bs) (sym given) w.2;
-          nodes_are = ap (λ (ns : List NodeRun). ns ++ node ∷ []) nodes_are
+          wait = subst (λ (g : ℕ). Wait kept limit g callers bs) (sym given) w.2;
+          nodes_are = λ k. grown k ∙ ap (λ (ns : List NodeRun). ns ++ node ∷ []) (nodes_are k)
               ∙ append_assoc (nodes_before fs ++ nodes_in b) (nodes_in u.before) (node ∷ [])
               ∙ append_assoc (nodes_before fs) (nodes_in b) (nodes_in u.before ++ node ∷ [])
-              ∙ ap (λ (ns : List NodeRun). nodes_before fs ++ (nodes_in b ++ ns)) (ap (λ (ns : List NodeRun). nodes_in u.before ++ ns) node_list
+              ∙ ap (λ (ns : List NodeRun). nodes_before fs ++ (nodes_in b ++ ns)) (ap (λ (ns : List NodeRun). nodes_in u.before ++ ns) (node_list k)
               ∙ ap (λ (c : Calls). nodes_in c ++ node_of q x (value v used) inner) (sym (join-none u.before)) ∙ sym (append-nil _))
               ∙ ap (λ (ns : List NodeRun). nodes_before fs ++ ns) (sym (nodes_join b made))
               ∙ ap (λ (ws : List Waiting). nodes_before ws ++ nodes_in (join b made)) (sym same);
@@ -180,74 +180,72 @@ answered lib limit ran frame next caller callers nodes node n left used v new u 
 
 -- ---- ends
 
--- a run that ends without a value has no node of its own
-no_node-fault : (name : Option ℕ) (x : ℤ) (k : FaultKind) (used : ℕ) (c : Calls) → own_node name x (fault k used) c ≡ []
-no_node-fault (Some q) x k used c = refl
-no_node-fault None x k used c = refl
-
-no_node-out : (name : Option ℕ) (x : ℤ) (used : ℕ) (c : Calls) → own_node name x (out used) c ≡ []
-no_node-out (Some q) x used c = refl
-no_node-out None x used c = refl
-
 -- what the whole run comes to, told as the code has it
-told_run : (ran : Outcome × Calls) (name : Option ℕ) (x : ℤ) (n left : ℕ) (run : Run) (o : Outcome) (c : Calls) (own : List NodeRun) → ran ≡ (o, c) → run.outcome ≡ told o
-    → run.nodes ≡ nodes_in c ++ own → own_node name x o c ≡ own → steps_of o + left ≡ n → IsRun ran name x n run left
-told_run ran name x n left run o c own is outcome nodes own_is steps = record {
+told_run : (ran : Outcome × Calls) (name : Option ℕ) (x : ℤ) (n left : ℕ) (run : Run) (o : Outcome) (c : Calls) → ran ≡ (o, c) → run.outcome ≡ told o
+    → ((q : ℕ) → name ≡ Some q → run.nodes ≡ nodes_in c ++ node_of q x o c) → steps_of o + left ≡ n → IsRun ran name x n run left
+told_run ran name x n left run o c is outcome nodes steps = record {
   outcome = outcome ∙ sym (ap (λ (r : Outcome × Calls). told r.0) is);
-  nodes = nodes ∙ ap (λ (ns : List NodeRun). nodes_in c ++ ns) (sym own_is) ∙ sym (ap (λ (r : Outcome × Calls). nodes_in r.1 ++ own_node name x r.0 r.1) is);
+  nodes = λ q e. nodes q e ∙ sym (ap (λ (r : Outcome × Calls). nodes_of q x r) is);
   steps = ap (λ (r : Outcome × Calls). steps_of r.0 + left) is ∙ steps;
 }
 
 -- a fault ends the whole run
-ended_failed : (lib : Library) (limit : ℕ) (ran : Outcome × Calls) (name : Option ℕ) (x : ℤ) (frame : Frame) (callers : List Caller) (nodes : List NodeRun) (n left : ℕ) (k : FaultKind) (c : Calls) (run : Run)
-    → (u : IsUnder lib limit ran frame callers nodes n) → left ≤ n
+ended_failed : (lib : Library) (kept : Bool) (limit : ℕ) (ran : Outcome × Calls) (name : Option ℕ) (named : (q : ℕ) → name ≡ Some q → IsTrue kept) (x : ℤ) (frame : Frame) (callers : List Caller) (nodes : List NodeRun) (n left : ℕ) (k : FaultKind) (c : Calls) (run : Run)
+    → (u : IsUnder lib kept limit ran frame callers nodes n) → left ≤ n
     → unwind lib (waiting frame.given callers u.befores) (after_calls u.before (run_on (run_name lib) frame.machine n)) ≡ unwind lib (waiting frame.given callers u.befores) (failed k left c)
     → nodes_in c ≡ nodes_in u.before → run.outcome ≡ told_as.Fault k (limit - left) → run.nodes ≡ nodes → IsRun ran name x limit run left
-ended_failed lib limit ran name x frame callers nodes n left k c run u le is same_nodes outcome are =
+ended_failed lib kept limit ran name named x frame callers nodes n left k c run u le is same_nodes outcome are =
     let ws = waiting frame.given callers u.befores in
-    let given = given_left limit left frame.given callers u.befores (let w = u.stands.within in omega (arith, w, le)) u.wait in
-    let bound = under_limit lib limit ran frame callers nodes n u in
+    let given = given_left kept limit left frame.given callers u.befores (let w = u.stands.within in omega (arith, w, le)) u.wait in
+    let bound = under_limit lib kept limit ran frame callers nodes n u in
     let all = unwind_failed lib ws k left c given in
     let whole : ran ≡ (fault k (limit - left), all.0) = sym u.run ∙ ap (outcome_of limit) is ∙ ap (outcome_of limit) all.1 in
-    told_run ran name x limit left run (fault k (limit - left)) all.0 [] whole outcome
-    (are ∙ u.nodes_are ∙ ap (λ (ns : List NodeRun). nodes_before ws ++ ns) (sym same_nodes) ∙ sym all.2 ∙ sym (append-nil _)) (no_node-fault name x k (limit - left) all.0) (omega (arith, bound, le))
+    told_run ran name x limit left run (fault k (limit - left)) all.0 whole outcome
+    (λ q e. are ∙ u.nodes_are (named q e) ∙ ap (λ (ns : List NodeRun). nodes_before ws ++ ns) (sym same_nodes) ∙ sym all.2 ∙ sym (append-nil _)) (omega (arith, bound, le))
 
-pub faulted : (lib : Library) (limit : ℕ) (ran : Outcome × Calls) (name : Option ℕ) (x : ℤ) (frame : Frame) (callers : List Caller) (nodes : List NodeRun) (n left : ℕ) (k : FaultKind) (new : State) (run : Run)
-    → IsUnder lib limit ran frame callers nodes n → left ≤ n → Advances frame.machine n (stop.Fault k) left new
+pub faulted : (lib : Library) (kept : Bool) (limit : ℕ) (ran : Outcome × Calls) (name : Option ℕ) (named : (q : ℕ) → name ≡ Some q → IsTrue kept) (x : ℤ) (frame : Frame) (callers : List Caller) (nodes : List NodeRun) (n left : ℕ) (k : FaultKind) (new : State) (run : Run)
+    → IsUnder lib kept limit ran frame callers nodes n → left ≤ n → Advances frame.machine n (stop.Fault k) left new
     → run.outcome ≡ told_as.Fault k (limit - left) → run.nodes ≡ nodes → IsRun ran name x limit run left
-faulted lib limit ran name x frame callers nodes n left k new run u le adv outcome are =
-    ended_failed lib limit ran name x frame callers nodes n left k (join u.before none) run u le
+faulted lib kept limit ran name named x frame callers nodes n left k new run u le adv outcome are =
+    ended_failed lib kept limit ran name named x frame callers nodes n left k (join u.before none) run u le
     (ap (λ (e : Ending). unwind lib (waiting frame.given callers u.befores) (after_calls u.before e)) (adv (run_name lib))) (ap nodes_in (join-none u.before)) outcome are
 
-pub missing : (lib : Library) (limit : ℕ) (ran : Outcome × Calls) (name : Option ℕ) (x : ℤ) (frame : Frame) (callers : List Caller) (nodes : List NodeRun) (n left r : ℕ) (y : ℤ) (new : State) (run : Run)
-    → IsUnder lib limit ran frame callers nodes n → left ≤ n → Advances frame.machine n (stop.Call r y) left new → lib r ≡ None
+pub missing : (lib : Library) (kept : Bool) (limit : ℕ) (ran : Outcome × Calls) (name : Option ℕ) (named : (q : ℕ) → name ≡ Some q → IsTrue kept) (x : ℤ) (frame : Frame) (callers : List Caller) (nodes : List NodeRun) (n left r : ℕ) (y : ℤ) (new : State) (run : Run)
+    → IsUnder lib kept limit ran frame callers nodes n → left ≤ n → Advances frame.machine n (stop.Call r y) left new → lib r ≡ None
     → run.outcome ≡ told_as.Fault Missing (limit - left) → run.nodes ≡ nodes → IsRun ran name x limit run left
-missing lib limit ran name x frame callers nodes n left r y new run u le adv gone outcome are =
+missing lib kept limit ran name named x frame callers nodes n left r y new run u le adv gone outcome are =
     let gone_call : Calls = call r y (fault Missing 0) none none in
-    ended_failed lib limit ran name x frame callers nodes n left Missing (join u.before gone_call) run u le
+    ended_failed lib kept limit ran name named x frame callers nodes n left Missing (join u.before gone_call) run u le
     (missing_call lib (waiting frame.given callers u.befores) u.before frame.machine new n left r y adv gone)
     (nodes_join u.before gone_call ∙ append-nil (nodes_in u.before)) outcome are
 
-pub ran_out : (lib : Library) (limit : ℕ) (ran : Outcome × Calls) (name : Option ℕ) (x : ℤ) (frame : Frame) (callers : List Caller) (nodes : List NodeRun) (n left : ℕ) (new : State) (run : Run)
-    → IsUnder lib limit ran frame callers nodes n → left ≤ n → Advances frame.machine n stop.Spent left new
+pub ran_out : (lib : Library) (kept : Bool) (limit : ℕ) (ran : Outcome × Calls) (name : Option ℕ) (named : (q : ℕ) → name ≡ Some q → IsTrue kept) (x : ℤ) (frame : Frame) (callers : List Caller) (nodes : List NodeRun) (n left : ℕ) (new : State) (run : Run)
+    → IsUnder lib kept limit ran frame callers nodes n → left ≤ n → Advances frame.machine n stop.Spent left new
     → run.outcome ≡ told_as.OutOfSteps → run.nodes ≡ nodes → IsRun ran name x limit run left
-ran_out lib limit ran name x frame callers nodes n left new run u le adv outcome are =
+ran_out lib kept limit ran name named x frame callers nodes n left new run u le adv outcome are =
     let c : Calls = join u.before none in
     let ws = waiting frame.given callers u.befores in
-    let given = given_left limit left frame.given callers u.befores (let w = u.stands.within in omega (arith, w, le)) u.wait in
-    let bound = under_limit lib limit ran frame callers nodes n u in
+    let given = given_left kept limit left frame.given callers u.befores (let w = u.stands.within in omega (arith, w, le)) u.wait in
+    let bound = under_limit lib kept limit ran frame callers nodes n u in
     let all = unwind_spent lib ws left c given in
     let whole : ran ≡ (out (limit - left), all.0) = sym u.run ∙ ap (λ (e : Ending). outcome_of limit (unwind lib ws (after_calls u.before e))) (adv (run_name lib)) ∙ ap (outcome_of limit) all.1 in
-    told_run ran name x limit left run (out (limit - left)) all.0 [] whole outcome
-    (are ∙ u.nodes_are ∙ ap (λ (ns : List NodeRun). nodes_before ws ++ ns) (ap nodes_in (sym (join-none u.before))) ∙ sym all.2 ∙ sym (append-nil _)) (no_node-out name x (limit - left) all.0) (omega (arith, bound, le))
+    told_run ran name x limit left run (out (limit - left)) all.0 whole outcome
+    (λ q e. are ∙ u.nodes_are (named q e) ∙ ap (λ (ns : List NodeRun). nodes_before ws ++ ns) (ap nodes_in (sym (join-none u.before))) ∙ sym all.2 ∙ sym (append-nil _)) (omega (arith, bound, le))
+
+-- its own finished run, of what its frame holds
+named_run-is : (q : ℕ) (x v : ℤ) (used below : ℕ) (calls : List Pair) (before : Calls) → below ≡ steps_below before → calls ≡ direct before
+    → named_run (Some q) x v (used - below) calls ≡ node_of q x (value v used) before
+named_run-is q x v used below calls before same_below same_calls =
+    let N : ℕ → List Pair → List NodeRun = λ o cs. ended_run (pair q x) v o cs ∷ [] in
+    ap (λ (b : ℕ). N (used - b) calls) same_below ∙ ap (N (used - steps_below before)) same_calls
 
 -- the outermost run ends with a value, and what it adds to the nodes is its own
-ended_done : (lib : Library) (limit : ℕ) (ran : Outcome × Calls) (name : Option ℕ) (x : ℤ) (frame : Frame) (nodes own : List NodeRun) (n left used : ℕ) (v : ℤ) (new : State) (run : Run)
-    → (u : IsUnder lib limit ran frame [] nodes n) → Advances frame.machine n (stop.Done v) left new → used + left ≡ frame.given → own_node name x (value v used) u.before ≡ own
-    → run.outcome ≡ told_as.Value v used → run.nodes ≡ nodes ++ own → IsRun ran name x limit run left
-ended_done lib limit ran name x frame nodes own n left used v new run u adv sum own_is outcome are = by_befores u.befores u.wait u.nodes_are u.run
+pub finished : (lib : Library) (kept : Bool) (limit : ℕ) (ran : Outcome × Calls) (name : Option ℕ) (named : (q : ℕ) → name ≡ Some q → IsTrue kept) (x : ℤ) (frame : Frame) (nodes : List NodeRun) (n left used : ℕ) (v : ℤ) (new : State) (run : Run)
+    → IsUnder lib kept limit ran frame [] nodes n → Advances frame.machine n (stop.Done v) left new → used + left ≡ frame.given
+    → run.outcome ≡ told_as.Value v used → run.nodes ≡ nodes ++ named_run name x v (used - frame.below) frame.calls.items → IsRun ran name x limit run left
+finished lib kept limit ran name named x frame nodes n left used v new run u adv sum outcome are = by_befores u.befores u.wait u.nodes_are u.run
   where
-    by_befores : (bs : List Calls) → Wait limit frame.given [] bs → nodes ≡ nodes_before (waiting frame.given [] bs) ++ nodes_in u.before
+    by_befores : (bs : List Calls) → Wait kept limit frame.given [] bs → (IsTrue kept → nodes ≡ nodes_before (waiting frame.given [] bs) ++ nodes_in u.before)
         → outcome_of limit (unwind lib (waiting frame.given [] bs) (after_calls u.before (run_on (run_name lib) frame.machine n))) ≡ ran → IsRun ran name x limit run left
     by_befores (b ∷ bs) w nodes_are whole = absurd w
     by_befores [] w nodes_are whole =
@@ -256,54 +254,41 @@ ended_done lib limit ran name x frame nodes own n left used v new run u adv sum 
         let c = join u.before none in
         let is : ran ≡ (value v used, c) =
         sym whole ∙ ap (λ (e : Ending). outcome_of limit (after_calls u.before e)) d.1 ∙ ap (λ (z : ℤ). (value z (limit - left), c)) d.2 ∙ ap (λ (s : ℕ). (value v s, c)) spent_is in
-        told_run ran name x limit left run (value v used) c own is outcome
-        (are ∙ ap (λ (ns : List NodeRun). ns ++ own) (nodes_are ∙ ap nodes_in (sym (join-none u.before)))) (ap (own_node name x (value v used)) (join-none u.before) ∙ own_is) (omega (arith, w, sum))
-
--- its own finished run, of what its frame holds
-named_run-is : (name : Option ℕ) (x v : ℤ) (used below : ℕ) (calls : List Pair) (before : Calls) → below ≡ steps_below before → calls ≡ direct before
-    → own_node name x (value v used) before ≡ named_run name x v (used - below) calls
-named_run-is (Some q) x v used below calls before same_below same_calls =
-    let N : ℕ → List Pair → List NodeRun = λ o cs. ended_run (pair q x) v o cs ∷ [] in
-    sym (ap (λ (b : ℕ). N (used - b) calls) same_below ∙ ap (N (used - steps_below before)) same_calls)
-named_run-is None x v used below calls before same_below same_calls = refl
-
--- with a name or without one
-pub finished : (lib : Library) (limit : ℕ) (ran : Outcome × Calls) (name : Option ℕ) (x : ℤ) (frame : Frame) (nodes : List NodeRun) (n left used : ℕ) (v : ℤ) (new : State) (run : Run)
-    → IsUnder lib limit ran frame [] nodes n → Advances frame.machine n (stop.Done v) left new → used + left ≡ frame.given
-    → run.outcome ≡ told_as.Value v used → run.nodes ≡ nodes ++ named_run name x v (used - frame.below) frame.calls.items → IsRun ran name x limit run left
-finished lib limit ran name x frame nodes n left used v new run u adv sum outcome are =
-    ended_done lib limit ran name x frame nodes (named_run name x v (used - frame.below) frame.calls.items) n left used v new run u adv sum
-    (named_run-is name x v used frame.below frame.calls.items u.before u.stands.below u.stands.calls) outcome are
+        let own = λ (q : ℕ) (e : name ≡ Some q). ap (λ (m : Option ℕ). named_run m x v (used - frame.below) frame.calls.items) e
+        ∙ named_run-is q x v used frame.below frame.calls.items u.before u.stands.below (u.stands.calls (named q e)) ∙ ap (node_of q x (value v used)) (sym (join-none u.before)) in
+        told_run ran name x limit left run (value v used) c is outcome
+        (λ q e. are ∙ ap (λ (ns : List NodeRun). ns ++ named_run name x v (used - frame.below) frame.calls.items) (nodes_are (named q e) ∙ ap nodes_in (sym (join-none u.before)))
+        ∙ ap (λ (ns : List NodeRun). nodes_in c ++ ns) (own q e)) (omega (arith, w, sum))
 
 -- ---- what the code has
 
-pub moved : (lib : Library) (limit : ℕ) (ran : Outcome × Calls) (frame : Frame) (cs ds : List Caller) (ns ms : List NodeRun) (left : ℕ) → ds ≡ cs → ms ≡ ns → IsUnder lib limit ran frame cs ns left → IsUnder lib limit ran frame ds ms left
-moved lib limit ran frame cs ds ns ms left ec en u =
-    subst (λ (z : List Caller). IsUnder lib limit ran frame z ms left) (sym ec) (subst (λ (z : List NodeRun). IsUnder lib limit ran frame cs z left) (sym en) u)
+pub moved : (lib : Library) (kept : Bool) (limit : ℕ) (ran : Outcome × Calls) (frame : Frame) (cs ds : List Caller) (ns ms : List NodeRun) (left : ℕ) → ds ≡ cs → ms ≡ ns → IsUnder lib kept limit ran frame cs ns left → IsUnder lib kept limit ran frame ds ms left
+moved lib kept limit ran frame cs ds ns ms left ec en u =
+    subst (λ (z : List Caller). IsUnder lib kept limit ran frame z ms left) (sym ec) (subst (λ (z : List NodeRun). IsUnder lib kept limit ran frame cs z left) (sym en) u)
 
 -- the innermost caller waits, and its callee's steps fit
 pub record CallerWaits (caller callee : Frame) (limit : ℕ) : Type 0 where
   pub waits : caller.machine.phase ≡ IsWaiting
   pub room : caller.below + callee.given ≤ limit
 
-pub caller_waits : (lib : Library) (limit : ℕ) (ran : Outcome × Calls) (frame : Frame) (caller : Caller) (callers : List Caller) (nodes : List NodeRun) (left : ℕ) → IsUnder lib limit ran frame (caller ∷ callers) nodes left → CallerWaits caller.frame frame limit
-caller_waits lib limit ran frame caller callers nodes left u = by_befores u.befores u.wait
+pub caller_waits : (lib : Library) (kept : Bool) (limit : ℕ) (ran : Outcome × Calls) (frame : Frame) (caller : Caller) (callers : List Caller) (nodes : List NodeRun) (left : ℕ) → IsUnder lib kept limit ran frame (caller ∷ callers) nodes left → CallerWaits caller.frame frame limit
+caller_waits lib kept limit ran frame caller callers nodes left u = by_befores u.befores u.wait
   where
-    by_befores : (bs : List Calls) → Wait limit frame.given (caller ∷ callers) bs → CallerWaits caller.frame frame limit
+    by_befores : (bs : List Calls) → Wait kept limit frame.given (caller ∷ callers) bs → CallerWaits caller.frame frame limit
     by_befores [] w = absurd w
     by_befores (b ∷ bs) w = record {
       waits = w.1;
-      room = (let a = w.0.within in let top = left_within limit caller.frame.given caller.frame.given callers bs (omega arith) w.2 in omega (arith, a, top));
+      room = (let a = w.0.within in let top = left_within kept limit caller.frame.given caller.frame.given callers bs (omega arith) w.2 in omega (arith, a, top));
     }
 
-pub node_made : (lib : Library) (limit : ℕ) (ran : Outcome × Calls) (frame : Frame) (callers : List Caller) (nodes : List NodeRun) (n used : ℕ) (p : Pair) (v : ℤ) → (u : IsUnder lib limit ran frame callers nodes n)
-    → IsNode p u.before v used (ended_run p v (used - frame.below) frame.calls.items)
-node_made lib limit ran frame callers nodes n used p v u = record {
+pub node_made : (lib : Library) (kept : Bool) (limit : ℕ) (ran : Outcome × Calls) (frame : Frame) (callers : List Caller) (nodes : List NodeRun) (n used : ℕ) (p : Pair) (v : ℤ) → (u : IsUnder lib kept limit ran frame callers nodes n)
+    → IsTrue kept → IsNode p u.before v used (ended_run p v (used - frame.below) frame.calls.items)
+node_made lib kept limit ran frame callers nodes n used p v u k = record {
   pair = refl;
   value = refl;
   own = ap (λ (b : ℕ). used - b) u.stands.below;
-  calls = u.stands.calls;
+  calls = u.stands.calls k;
 }
 
-pub given_back : (lib : Library) (limit : ℕ) (ran : Outcome × Calls) (frame : Frame) (callers : List Caller) (nodes : List NodeRun) (n left : ℕ) → IsUnder lib limit ran frame callers nodes n → left ≤ n → (frame.given - left) + left ≡ frame.given
-given_back lib limit ran frame callers nodes n left u le = let w = u.stands.within in omega (arith, w, le)
+pub given_back : (lib : Library) (kept : Bool) (limit : ℕ) (ran : Outcome × Calls) (frame : Frame) (callers : List Caller) (nodes : List NodeRun) (n left : ℕ) → IsUnder lib kept limit ran frame callers nodes n → left ≤ n → (frame.given - left) + left ≡ frame.given
+given_back lib kept limit ran frame callers nodes n left u le = let w = u.stands.within in omega (arith, w, le)

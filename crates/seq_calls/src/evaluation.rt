@@ -64,6 +64,7 @@ fn ended_with(
 }
 
 // A run of a program, with a frame for each run that has not ended. The machine of a run that ended serves the next call.
+// Finished runs are kept where the program has a name, and else nobody asks for them.
 fn run_frames<'a, B: Library>(
     alloc: Global,
     lib: &'a B,
@@ -76,6 +77,7 @@ fn run_frames<'a, B: Library>(
     ensures budget { budget.new ≤ budget.old }
 {
     let limit = *budget;
+    let kept = name.is_some();
     let mut callers: Vec<Caller<'a>> = Vec::new(alloc);
     let mut finished = Finished::none(alloc);
     let mut frame = begin(alloc, &mut finished.free, program, arg, limit)?;
@@ -96,9 +98,9 @@ fn run_frames<'a, B: Library>(
                 let Some(caller) = callers.pop() else {
                     return ended_with(frame, name, arg, value, used, finished.nodes);
                 };
-                finished.take(frame, caller.call, value, used)?;
+                finished.take(kept, frame, caller.call, value, used)?;
                 frame = caller.frame;
-                frame.go_on(caller.call, value, used)?;
+                frame.go_on(kept, caller.call, value, used)?;
             }
             Stop::Fault(kind) => return Ok(failed(kind, limit - *budget, finished.nodes)),
             Stop::Spent => return Ok(ended(Outcome::OutOfSteps, finished.nodes)),
@@ -160,6 +162,29 @@ pub fn evaluate_alone<B: Library>(
 {
     let mut left = limit;
     run_name(alloc, lib, name, arg, &mut left)
+}
+
+/// The outcome of `evaluate_alone`, without its finished runs.
+pub fn outcome_alone<B: Library>(
+    alloc: Global,
+    lib: &B,
+    name: u32,
+    arg: Num,
+    limit: u64,
+) -> Result<Outcome, AllocError>
+    ensures { IfOk result (λ outcome. outcome ≡ told (run_name (B.programs lib.now) name arg limit).0) }
+{
+    let mut left = limit;
+    match lib.program(name) {
+        Some(program) => {
+            let run = run_frames(alloc, lib, program, None, arg, &mut left)?;
+            Ok(run.outcome)
+        }
+        None => Ok(Outcome::Fault {
+            kind: FaultKind::Missing,
+            steps: 0,
+        }),
+    }
 }
 
 /// Runs a program that has no name at an argument, with at most `limit` steps, those of its calls included.

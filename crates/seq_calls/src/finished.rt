@@ -1,6 +1,6 @@
 //! Runs that have ended.
 
-ghost use Rattle.std.specs.Prelude.{◌≡◌, ◌≤◌, ◌-◌, ◌++◌, ◌∷◌, [], OnOk};
+ghost use Rattle.std.specs.Prelude.{◌≡◌, ◌≤◌, ◌-◌, ◌++◌, ◌∷◌, [], IsTrue, OnOk};
 ghost use Rattle.seq_calls.specs.Under.{ended_run};
 
 use crate::outcomes::NodeRun;
@@ -61,21 +61,24 @@ impl Finished {
         }
     }
 
-    /// Takes the run of a call that ended with a value after so many steps.
+    /// Takes the run of a call that ended with a value after so many steps. Its finished run is kept where runs are.
     #[inline(always)]
     pub fn take(
         &mut self,
+        kept: bool,
         callee: Frame<'_>,
         call: Pair,
         value: Num,
         used: u64,
     ) -> Result<(), AllocError>
         requires { callee.below ≤ used }
-        ensures { OnOk result (self.new.nodes.items ≡ self.old.nodes.items ++ ended_run call value (used - callee.entry.below) callee.entry.calls.items ∷ []) }
+        ensures { OnOk result (IsTrue kept → self.new.nodes.items ≡ self.old.nodes.items ++ ended_run call value (used - callee.entry.below) callee.entry.calls.items ∷ []) }
     {
         let (node, machine) = callee.end(call, value, used);
-        self.nodes.push(node)?;
         self.free.push(machine)?;
+        if kept {
+            self.nodes.push(node)?;
+        }
         Ok(())
     }
 }

@@ -2,7 +2,7 @@
 
 ghost use Rattle.std.specs.Prelude.{◌≡◌, ◌<◌};
 
-use crate::{NodeRun, Outcome, Run, Steps, evaluate, evaluate_text};
+use crate::{NodeRun, Outcome, Run, Steps, evaluate, evaluate_text, outcome_alone};
 use checked_numbers::Num;
 use loda_semantics::FaultKind;
 use loda_syntax::{Program, parse};
@@ -270,6 +270,8 @@ fn names(rt: HostRuntime) -> Result<(), Fail> {
             "{} at {} of {}",
             row.name, row.arg, row.text
         );
+        let alone = outcome_alone(rt.alloc(), &store, row.name, number(row.arg)?, row.limit)?;
+        assert_eq!(rt; alone, want, "{} of {}", row.name, row.text);
         let nodes = run.nodes.list();
         assert_eq!(rt;
             nodes.len(),

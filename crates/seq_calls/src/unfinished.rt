@@ -1,6 +1,6 @@
 //! Runs that have not ended.
 
-ghost use Rattle.std.specs.Prelude.{◌≡◌, ◌+◌, ◌<◌, ◌≤◌, ◌^◌, ◌++◌, ◌∷◌, [], IfOk, OnOk};
+ghost use Rattle.std.specs.Prelude.{◌≡◌, ◌+◌, ◌<◌, ◌≤◌, ◌^◌, ◌++◌, ◌∷◌, [], IsTrue, IfOk, OnOk};
 ghost use Rattle.lex_loops.specs.State.{Begins, TakesAnswer};
 ghost use Rattle.lex_loops.specs.declared.stop.Phase.TheVariants as phase;
 
@@ -98,8 +98,8 @@ impl Frame<'_> {
         (node, machine)
     }
 
-    /// Goes on with the value of a call that used so many steps.
-    pub fn go_on(&mut self, call: Pair, value: Num, used: u64) -> Result<(), AllocError>
+    /// Goes on with the value of a call that used so many steps. The call is kept where runs are.
+    pub fn go_on(&mut self, kept: bool, call: Pair, value: Num, used: u64) -> Result<(), AllocError>
         requires waits { self.old.machine.phase ≡ phase.Waiting }
         requires room { self.old.below + used < 2 ^ 64 }
         ensures answer { OnOk result (TakesAnswer self.old.machine value self.new.machine) }
@@ -107,12 +107,14 @@ impl Frame<'_> {
         ensures text { OnOk result (self.new.machine.program ≡ self.old.machine.program) }
         ensures program { OnOk result (self.new.program.now ≡ self.old.program.now) }
         ensures given { OnOk result (self.new.given ≡ self.old.given) }
-        ensures calls { OnOk result (self.new.calls.items ≡ self.old.calls.items ++ call ∷ []) }
+        ensures calls { OnOk result (IsTrue kept → self.new.calls.items ≡ self.old.calls.items ++ call ∷ []) }
         ensures below { OnOk result (self.new.below ≡ self.old.below + used) }
     {
-        self.calls.push(call)?;
         self.below += used;
         self.machine.answer(value);
+        if kept {
+            self.calls.push(call)?;
+        }
         Ok(())
     }
 }

@@ -1,4 +1,4 @@
-use Rattle.std.proofs.Common.{ℕ, ◌+◌, ◌-◌, ◌≡◌, refl, sym, ap, subst, ◌∙◌, arith, List, [], ◌∷◌, ◌++◌, length, take, append-nil, length-append}
+use Rattle.std.proofs.Common.{is_some, ℕ, ◌+◌, ◌-◌, ◌≡◌, refl, sym, ap, subst, ◌∙◌, arith, List, [], ◌∷◌, ◌++◌, length, take, append-nil, length-append}
 use Rattle.std.specs.Prelude.{reverse, vec_len}
 use Rattle.std.specs.Option.{option_copied}
 use Rattle.std.specs.Result.{IfOk}
@@ -35,16 +35,17 @@ pub loop-frame-init : goal.loop-frame-init
 loop-frame-init g c =
     let e = c.in_ok-frame.ensures in
     record {
-      under = moved (g.B.Library.programs c.args.lib.now) c.args.budget.now _ c.in_ok-frame.frame [] _ [] _ c.args.budget.now (ap (λ (xs : List Caller). reverse xs) c.new-callers.ensures.items) c.none-finished.ensures
-          (begins (g.B.Library.programs c.args.lib.now) c.args.budget.now c.args.arg c.args.program.now c.in_ok-frame.frame e.begins e.text e.phase e.program e.given e.calls e.below);
+      under = moved (g.B.Library.programs c.args.lib.now) (is_some c.args.name) c.args.budget.now _ c.in_ok-frame.frame [] _ [] _ c.args.budget.now (ap (λ (xs : List Caller). reverse xs) c.new-callers.ensures.items) c.none-finished.ensures
+          (begins (g.B.Library.programs c.args.lib.now) (is_some c.args.name) c.args.budget.now c.args.arg c.args.program.now c.in_ok-frame.frame e.begins e.text e.phase e.program e.given e.calls e.below);
       within = omega arith;
       limit = refl;
       name = refl;
+      kept = c.is_some-kept.ensures;
     }
 
 pub returns-in_default-clause-run : goal.returns-in_default-clause-run
 returns-in_default-clause-run g c =
-    missing (g.B.Library.programs c.args.lib.now) c.args.budget.now _ c.args.name c.args.arg c.loop-frame.frame (reverse c.loop-frame.callers.items) c.loop-frame.finished.nodes.items c.loop-frame.budget c.advance.new.budget
+    missing (g.B.Library.programs c.args.lib.now) (is_some c.args.name) c.args.budget.now _ c.args.name (λ q e. ap is_some e) c.args.arg c.loop-frame.frame (reverse c.loop-frame.callers.items) c.loop-frame.finished.nodes.items c.loop-frame.budget c.advance.new.budget
     c.in-Call.name c.in-Call.arg c.advance.new.self c.failed.result c.loop-frame.invariant.under c.in_ok-name.ensures.budget
     (subst (λ (s : Stop). Advances c.loop-frame.frame.machine c.loop-frame.budget s c.advance.new.budget c.advance.new.self) c.in-Call.is c.in_ok-name.ensures.stops)
     (sym c.program.ensures ∙ ap option_copied c.in_default.is) c.failed.ensures.outcome c.failed.ensures.nodes
@@ -54,9 +55,9 @@ loop-frame-preserved-in-Call g c =
     let e = c.in_ok-callee-in-Call.ensures in
     let caller : Caller = caller_of c.loop-frame.frame c.advance.new.self c.in-Call.name c.in-Call.arg in
     record {
-      under = moved (g.B.Library.programs c.args.lib.now) c.args.budget.now _ c.in_ok-callee-in-Call.callee (caller ∷ reverse c.loop-frame.callers.items) _ c.loop-frame.finished.nodes.items c.loop-frame.finished.nodes.items c.advance.new.budget
+      under = moved (g.B.Library.programs c.args.lib.now) (is_some c.args.name) c.args.budget.now _ c.in_ok-callee-in-Call.callee (caller ∷ reverse c.loop-frame.callers.items) _ c.loop-frame.finished.nodes.items c.loop-frame.finished.nodes.items c.advance.new.budget
           (top c.push.new.self.items c.loop-frame.callers.items caller c.in_ok-push-in-Call.ensures.items) refl
-          (called (g.B.Library.programs c.args.lib.now) c.args.budget.now _ c.loop-frame.frame c.in_ok-callee-in-Call.callee (reverse c.loop-frame.callers.items) c.loop-frame.finished.nodes.items c.loop-frame.budget c.advance.new.budget
+          (called (g.B.Library.programs c.args.lib.now) (is_some c.args.name) c.args.budget.now _ c.loop-frame.frame c.in_ok-callee-in-Call.callee (reverse c.loop-frame.callers.items) c.loop-frame.finished.nodes.items c.loop-frame.budget c.advance.new.budget
           c.in-Call.name c.in-Call.arg c.in-Some.program.now c.advance.new.self c.loop-frame.invariant.under
           (subst (λ (s : Stop). Advances c.loop-frame.frame.machine c.loop-frame.budget s c.advance.new.budget c.advance.new.self) c.in-Call.is c.in_ok-name.ensures.stops)
           c.in_ok-name.ensures.budget c.in_ok-name.ensures.program (c.in_ok-name.ensures.phase ∙ ap phase_after c.in-Call.is)
@@ -64,6 +65,7 @@ loop-frame-preserved-in-Call g c =
       within = (let a = c.in_ok-name.ensures.budget in let b = c.loop-frame.invariant.within in omega (arith, a, b));
       limit = refl;
       name = c.loop-frame.invariant.name;
+      kept = c.loop-frame.invariant.kept;
     }
 
 pub loop-frame-smaller-in-Call : goal.loop-frame-smaller-in-Call
@@ -78,55 +80,56 @@ returns-in_default-pop-clause-run g c =
     let e = c.in_default-pop.ensures in
     let left = c.advance.new.budget in
     let used = c.loop-frame.frame.given - left in
-    let u = moved (g.B.Library.programs c.args.lib.now) c.args.budget.now _ c.loop-frame.frame (reverse c.loop-frame.callers.items) [] c.loop-frame.finished.nodes.items c.loop-frame.finished.nodes.items c.loop-frame.budget (nothing c.loop-frame.callers.items c.pop.new.self.items (vec_len c.loop-frame.callers) e.cases.0 e.items e.rest) refl c.loop-frame.invariant.under in
+    let u = moved (g.B.Library.programs c.args.lib.now) (is_some c.args.name) c.args.budget.now _ c.loop-frame.frame (reverse c.loop-frame.callers.items) [] c.loop-frame.finished.nodes.items c.loop-frame.finished.nodes.items c.loop-frame.budget (nothing c.loop-frame.callers.items c.pop.new.self.items (vec_len c.loop-frame.callers) e.cases.0 e.items e.rest) refl c.loop-frame.invariant.under in
     let stops = subst (λ (s : Stop). Advances c.loop-frame.frame.machine c.loop-frame.budget s left c.advance.new.self) c.in-Done.is c.in_ok-name.ensures.stops in
-    let sum = given_back _ _ _ _ _ _ c.loop-frame.budget left u c.in_ok-name.ensures.budget in
-    if_both c.ended_with.result _ _ _ (λ (run : Run) outcome are. finished (g.B.Library.programs c.args.lib.now) c.args.budget.now _ c.args.name c.args.arg c.loop-frame.frame c.loop-frame.finished.nodes.items c.loop-frame.budget left used
+    let sum = given_back _ _ _ _ _ _ _ c.loop-frame.budget left u c.in_ok-name.ensures.budget in
+    if_both c.ended_with.result _ _ _ (λ (run : Run) outcome are. finished (g.B.Library.programs c.args.lib.now) (is_some c.args.name) c.args.budget.now _ c.args.name (λ q e. ap is_some e) c.args.arg c.loop-frame.frame c.loop-frame.finished.nodes.items c.loop-frame.budget left used
     c.in-Done.value c.advance.new.self run u stops sum outcome are) c.ended_with.ensures.outcome c.ended_with.ensures.nodes
 
 pub go_on-requires-clause-waits : goal.go_on-requires-clause-waits
 go_on-requires-clause-waits g c =
     let above = top c.loop-frame.callers.items c.pop.new.self.items c.in-Some-pop.caller c.in-Some-pop.ensures.items in
-    let waits = caller_waits (g.B.Library.programs c.args.lib.now) c.args.budget.now _ c.loop-frame.frame c.in-Some-pop.caller (reverse c.pop.new.self.items) c.loop-frame.finished.nodes.items c.loop-frame.budget
-    (moved _ _ _ _ _ _ _ _ _ (sym above) refl c.loop-frame.invariant.under) in
+    let waits = caller_waits (g.B.Library.programs c.args.lib.now) (is_some c.args.name) c.args.budget.now _ c.loop-frame.frame c.in-Some-pop.caller (reverse c.pop.new.self.items) c.loop-frame.finished.nodes.items c.loop-frame.budget
+    (moved _ _ _ _ _ _ _ _ _ _ (sym above) refl c.loop-frame.invariant.under) in
     waits.waits
 
 pub go_on-requires-clause-room : goal.go_on-requires-clause-room
 go_on-requires-clause-room g c =
     let above = top c.loop-frame.callers.items c.pop.new.self.items c.in-Some-pop.caller c.in-Some-pop.ensures.items in
-    let waits = caller_waits (g.B.Library.programs c.args.lib.now) c.args.budget.now _ c.loop-frame.frame c.in-Some-pop.caller (reverse c.pop.new.self.items) c.loop-frame.finished.nodes.items c.loop-frame.budget
-    (moved _ _ _ _ _ _ _ _ _ (sym above) refl c.loop-frame.invariant.under) in
+    let waits = caller_waits (g.B.Library.programs c.args.lib.now) (is_some c.args.name) c.args.budget.now _ c.loop-frame.frame c.in-Some-pop.caller (reverse c.pop.new.self.items) c.loop-frame.finished.nodes.items c.loop-frame.budget
+    (moved _ _ _ _ _ _ _ _ _ _ (sym above) refl c.loop-frame.invariant.under) in
     omega (arith, waits.room, c.type_inv.limit.fits)
 
 pub loop-frame-preserved : goal.loop-frame-preserved
 loop-frame-preserved g c =
     let above = top c.loop-frame.callers.items c.pop.new.self.items c.in-Some-pop.caller c.in-Some-pop.ensures.items in
     let rest = reverse c.pop.new.self.items in
-    let u = moved (g.B.Library.programs c.args.lib.now) c.args.budget.now _ c.loop-frame.frame (reverse c.loop-frame.callers.items) (c.in-Some-pop.caller ∷ rest) c.loop-frame.finished.nodes.items c.loop-frame.finished.nodes.items c.loop-frame.budget (sym above) refl c.loop-frame.invariant.under in
+    let u = moved (g.B.Library.programs c.args.lib.now) (is_some c.args.name) c.args.budget.now _ c.loop-frame.frame (reverse c.loop-frame.callers.items) (c.in-Some-pop.caller ∷ rest) c.loop-frame.finished.nodes.items c.loop-frame.finished.nodes.items c.loop-frame.budget (sym above) refl c.loop-frame.invariant.under in
     let e = c.in_ok-go_on-in-Done.ensures in
     record {
-      under = moved (g.B.Library.programs c.args.lib.now) c.args.budget.now _ c.go_on.new.self rest rest _ _ c.advance.new.budget refl c.in_ok-take-in-Done.ensures
-          (answered (g.B.Library.programs c.args.lib.now) c.args.budget.now _ c.loop-frame.frame c.go_on.new.self c.in-Some-pop.caller rest c.loop-frame.finished.nodes.items _ c.loop-frame.budget c.advance.new.budget (c.loop-frame.frame.given - c.advance.new.budget)
+      under = moved (g.B.Library.programs c.args.lib.now) (is_some c.args.name) c.args.budget.now _ c.go_on.new.self rest rest _ _ c.advance.new.budget refl refl
+          (answered (g.B.Library.programs c.args.lib.now) (is_some c.args.name) c.args.budget.now _ c.loop-frame.frame c.go_on.new.self c.in-Some-pop.caller rest c.loop-frame.finished.nodes.items _ c.loop-frame.budget c.advance.new.budget (c.loop-frame.frame.given - c.advance.new.budget)
           c.in-Done.value c.advance.new.self u
           (subst (λ (s : Stop). Advances c.loop-frame.frame.machine c.loop-frame.budget s c.advance.new.budget c.advance.new.self) c.in-Done.is c.in_ok-name.ensures.stops)
-          (given_back _ _ _ _ _ _ c.loop-frame.budget c.advance.new.budget u c.in_ok-name.ensures.budget)
-          e.answer e.ready e.text e.program e.given e.calls e.below
-          (node_made _ _ _ _ _ _ _ _ c.in-Some-pop.caller.call _ u));
+          (given_back _ _ _ _ _ _ _ c.loop-frame.budget c.advance.new.budget u c.in_ok-name.ensures.budget)
+          e.answer e.ready e.text e.program e.given (λ k. e.calls (c.loop-frame.invariant.kept ∙ k)) e.below
+          (node_made _ _ _ _ _ _ _ _ _ c.in-Some-pop.caller.call _ u) _ (λ k. c.in_ok-take-in-Done.ensures (c.loop-frame.invariant.kept ∙ k)));
       within = (let a = c.in_ok-name.ensures.budget in let b = c.loop-frame.invariant.within in omega (arith, a, b));
       limit = refl;
       name = c.loop-frame.invariant.name;
+      kept = c.loop-frame.invariant.kept;
     }
 
 pub returns-in-Fault-clause-run : goal.returns-in-Fault-clause-run
 returns-in-Fault-clause-run g c =
-    faulted (g.B.Library.programs c.args.lib.now) c.args.budget.now _ c.args.name c.args.arg c.loop-frame.frame (reverse c.loop-frame.callers.items) c.loop-frame.finished.nodes.items c.loop-frame.budget c.advance.new.budget
+    faulted (g.B.Library.programs c.args.lib.now) (is_some c.args.name) c.args.budget.now _ c.args.name (λ q e. ap is_some e) c.args.arg c.loop-frame.frame (reverse c.loop-frame.callers.items) c.loop-frame.finished.nodes.items c.loop-frame.budget c.advance.new.budget
     c.in-Fault.kind c.advance.new.self c.failed-in-Fault.result c.loop-frame.invariant.under c.in_ok-name.ensures.budget
     (subst (λ (s : Stop). Advances c.loop-frame.frame.machine c.loop-frame.budget s c.advance.new.budget c.advance.new.self) c.in-Fault.is c.in_ok-name.ensures.stops)
     c.failed-in-Fault.ensures.outcome c.failed-in-Fault.ensures.nodes
 
 pub returns-in-Spent-clause-run : goal.returns-in-Spent-clause-run
 returns-in-Spent-clause-run g c =
-    ran_out (g.B.Library.programs c.args.lib.now) c.args.budget.now _ c.args.name c.args.arg c.loop-frame.frame (reverse c.loop-frame.callers.items) c.loop-frame.finished.nodes.items c.loop-frame.budget c.advance.new.budget
+    ran_out (g.B.Library.programs c.args.lib.now) (is_some c.args.name) c.args.budget.now _ c.args.name (λ q e. ap is_some e) c.args.arg c.loop-frame.frame (reverse c.loop-frame.callers.items) c.loop-frame.finished.nodes.items c.loop-frame.budget c.advance.new.budget
     c.advance.new.self c.ended.result c.loop-frame.invariant.under c.in_ok-name.ensures.budget
     (subst (λ (s : Stop). Advances c.loop-frame.frame.machine c.loop-frame.budget s c.advance.new.budget c.advance.new.self) c.in-Spent.is c.in_ok-name.ensures.stops)
     c.ended.ensures.outcome c.ended.ensures.nodes

@@ -1,4 +1,4 @@
-use Rattle.std.proofs.Common.{◌≡◌, ◌+◌, ◌*◌, ◌≤◌, length}
+use Rattle.std.proofs.Common.{is_some, ◌≡◌, ◌+◌, ◌*◌, ◌≤◌, length}
 use Rattle.std.specs.Prelude.{reverse}
 use Rattle.loda_semantics.specs.Exec.{run_text}
 use Rattle.seq_calls.proofs.Under.{IsUnder}
@@ -6,10 +6,11 @@ use Rattle.seq_calls.proofs.evaluation.run_frames.Given as goal
 
 abbrev pub invariant-loop-frame : goal.invariant-loop-frame
 invariant-loop-frame g l = record {
-  under : IsUnder (g.B.Library.programs l.lib) l.limit (run_text (g.B.Library.programs l.lib) l.fn.program l.fn.arg l.limit) l.frame (reverse l.callers.items) l.finished.nodes.items l.budget;
+  under : IsUnder (g.B.Library.programs l.lib) (is_some l.fn.name) l.limit (run_text (g.B.Library.programs l.lib) l.fn.program l.fn.arg l.limit) l.frame (reverse l.callers.items) l.finished.nodes.items l.budget;
   within : l.budget ≤ l.limit;
   limit : l.limit ≡ l.fn.budget;
   name : l.name ≡ l.fn.name;
+  kept : l.kept ≡ is_some l.fn.name;
 }
 
 abbrev pub decreases-loop-frame : goal.decreases-loop-frame
