@@ -103,6 +103,7 @@ impl Cells {
     }
 
     /// Writes a cell. Where a loop is open, what it held is noted in the log.
+    #[inline(always)]
     pub fn write(&mut self, address: u16, value: Num, logged: bool) -> Result<(), AllocError>
         ensures memory { OnOk result (memory_of self.new.values.items ≡ set_cell (memory_of self.old.values.items) address value) }
         ensures replaces { IsTrue logged → OnOk result (Replaces self.old.log.items (memory_of self.old.values.items) self.new.log.items (memory_of self.new.values.items)) }
