@@ -15,12 +15,15 @@ use Rattle.checked_numbers.specs.Numbers.{is_number}
 abbrev pub in_range : ℤ → Result ℤ NumFault
 in_range z = if is_number z then Ok z else Err Overflow
 
+-- whether the integer is 0
 abbrev pub is_zero : ℤ → Bool
 is_zero z = unsigned_abs z == 0
 
+-- whether two integers are equal
 abbrev pub int_eq : ℤ → ℤ → Bool
 int_eq a b = is_zero (a -ℤ b)
 
+-- 1 where the test holds, and else 0
 abbrev pub of_test : Bool → ℤ
 of_test b = if b then pos 1 else pos 0
 
@@ -44,6 +47,7 @@ choose n zero = 1
 choose zero (suc k) = 0
 choose (suc n) (suc k) = choose n k + choose n (suc k)
 
+-- 1 for an even number, and -1 for an odd one
 abbrev pub sign : ℕ → ℤ
 sign n = if n % 2 == 0 then pos 1 else negsuc 0
 
@@ -51,6 +55,7 @@ sign n = if n % 2 == 0 then pos 1 else negsuc 0
 abbrev pub signed : Bool → ℕ → ℤ
 signed negative n = if negative then neg_ℤ (pos n) else pos n
 
+-- the ways to choose b of a: none for b < 0, and (-1)^b times those of b - a - 1 for a < 0 <= b
 abbrev pub binomial : ℤ → ℤ → ℤ
 binomial a (negsuc k) = pos 0
 binomial (pos n) (pos k) = pos (choose n k)
@@ -85,9 +90,11 @@ op_value Geq a b = Some (of_test (int_le b a))
 op_value Min a b = Some (int_min a b)
 op_value Max a b = Some (int_max a b)
 
+-- a division by zero where there is no value, and else the value where it is a number
 abbrev pub ranged : Option ℤ → Result ℤ NumFault
 ranged None = Err DivideByZero
 ranged (Some z) = in_range z
 
+-- what the operation answers
 abbrev pub op_answer : Op → ℤ → ℤ → Result ℤ NumFault
 op_answer op a b = ranged (op_value op a b)

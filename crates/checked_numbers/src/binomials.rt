@@ -1,4 +1,5 @@
-// Binomial coefficients, decided by the exact number of ways alone.
+//! Binomial coefficients, decided by the exact number of ways alone.
+
 ghost use Rattle.std.specs.Prelude.{◌≡◌, ◌+◌, ◌*◌, ◌/◌, ◌^◌, ◌<◌, ◌≤◌, SomeIff};
 ghost use Rattle.checked_numbers.specs.Ops.{choose};
 

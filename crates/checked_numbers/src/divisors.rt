@@ -1,4 +1,5 @@
-// The greatest common divisor, by Euclid's algorithm.
+//! The greatest common divisor, by Euclid's algorithm.
+
 ghost use Rattle.std.specs.Prelude.{◌≡◌};
 ghost use Rattle.std.specs.Int.{IsGcd};
 ghost use Rattle.checked_numbers.specs.Ops.{gcd};

@@ -1,4 +1,5 @@
-// The numbers that programs compute with, and their text.
+//! The numbers that programs compute with, and their text.
+
 ghost use Rattle.std.specs.Prelude.{◌≡◌, ℤ, SomeIff, ◌↔◌, IsTrue, ◌≤ℤ◌, ◌++◌, OnOk, OnErr};
 ghost use Rattle.checked_numbers.specs.Numbers.{IsNumber, decimal_of};
 

@@ -1,4 +1,5 @@
-// The operations of the LODA language on a target's value `a` and a source's value `b`.
+//! The operations of the LODA language on a target's value `a` and a source's value `b`.
+
 ghost use Rattle.std.specs.Prelude.{◌≡◌, ◌+◌, ◌^◌, ◌<◌, ℤ, pos, ◌<ℤ◌, unsigned_abs, IfSome, IfNone};
 ghost use Rattle.checked_numbers.specs.Numbers.{IsNumber};
 ghost use Rattle.checked_numbers.specs.Ops as spec;

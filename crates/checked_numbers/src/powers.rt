@@ -1,4 +1,5 @@
-// Powers of sizes, decided by the exact power alone.
+//! Powers of sizes, decided by the exact power alone.
+
 ghost use Rattle.std.specs.Prelude.{◌≡◌, ◌*◌, ◌%◌, ◌^◌, ◌<◌, SomeIff};
 
 // The product with one more factor where an odd number of factors is left.

@@ -150,6 +150,7 @@ fn memory_sinks(rt: HostRuntime) -> Result<(), Fail> {
     let alloc = rt.alloc();
     for (room, take, fail_at, empty_at, want, taken) in [
         (40, 16, 9, 9, Ok(()), 36),
+        // all at the first call: offered a byte at a time they would come to a second one, which fails
         (36, 36, 1, 1, Ok(()), 36),
         (35, 16, 9, 9, Err(Failed), 35),
         (40, 16, 2, 9, Err(Failed), 32),

@@ -36,7 +36,7 @@ cyclic q = Some self_call
 unfoldable pub indirect : Text
 indirect = Arith verb.Mov (Direct 0) (Indirect 0) ∷ []
 
--- The numbers of Fibonacci: at 0 the only iteration is undone; at n a run takes 5n + 8 steps, and fewer don't suffice.
+-- The numbers of Fibonacci: at 0 the only iteration is undone; at 0, 7 and 8 a run takes 5n + 8 steps, and at 9 and 7 fewer don't suffice.
 pub record FibonacciRuns : Type 0 where
   pub at_zero : (run_text nothing fibonacci (pos 0) 100).0 ≡ value (pos 0) 8
   pub at_seven : (run_text nothing fibonacci (pos 7) 100).0 ≡ value (pos 13) 43

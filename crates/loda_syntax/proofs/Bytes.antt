@@ -11,8 +11,8 @@ use Rattle.std.proofs.lemmas.Str.Parse.{digit_from_value}
 use Rattle.std.proofs.lemmas.Fmt.{decimal_is_IsNumeral_wide}
 use Rattle.std.proofs.lemmas.List.{reverse-append, reverse-reverse, length-reverse, append-nil}
 use Rattle.std.proofs.Math.Seq.{take-append_seam, take-length, drop-append-add}
-use Rattle.loda_syntax.specs.Lines.{is_blank, trim_front, trim_back, trim, without_return}
-use Rattle.loda_syntax.specs.Grammar.{digits_after, number_of}
+use Rattle.text_parts.specs.Blanks.{is_blank, trim_front, trim_back, trim, without_return}
+use Rattle.text_parts.specs.Digits.{digits_after, number_of}
 
 -- ---- no byte passes a test
 
@@ -141,7 +141,7 @@ trim_front_plain : (xs ys : List ℕ) → Plain xs → 0 < length xs → trim_fr
 trim_front_plain [] ys h lt = absurd (omega arith)
 trim_front_plain (x ∷ xs) ys h lt = rw (plain_blank x h.0) refl
 
-trim_back_plain : (xs ys : List ℕ) → Plain ys → 0 < length ys → trim_back (xs ++ ys) ≡ xs ++ ys
+pub trim_back_plain : (xs ys : List ℕ) → Plain ys → 0 < length ys → trim_back (xs ++ ys) ≡ xs ++ ys
 trim_back_plain xs ys h lt =
     let turned : reverse (xs ++ ys) ≡ reverse ys ++ reverse xs = reverse-append xs ys in
     let kept = trim_front_plain (reverse ys) (reverse xs) (Plain-reverse ys h) (simp length-reverse lt) in

@@ -5,7 +5,8 @@ use Rattle.std.specs.List.{after_first}
 use Rattle.loda_syntax.specs.declared.instr.Operand.{Operand}
 use Rattle.loda_syntax.specs.declared.word.Word.{Word}
 use Rattle.loda_syntax.specs.declared.error.SyntaxKind.{SyntaxKind}
-use Rattle.loda_syntax.specs.Lines.{trim, is_blank, word_of, operands_of, cut_operands}
+use Rattle.text_parts.specs.Blanks.{trim, is_blank}
+use Rattle.loda_syntax.specs.Lines.{word_of, operands_of, cut_operands}
 use Rattle.loda_syntax.specs.Words.{word_read}
 use Rattle.loda_syntax.specs.Grammar.{least_operands, most_operands, operands_read, instr_read, content_read}
 

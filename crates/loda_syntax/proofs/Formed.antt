@@ -16,7 +16,8 @@ use Rattle.loda_syntax.specs.declared.error.SyntaxKind.TheVariants as kinds
 use Rattle.loda_syntax.specs.WellFormed.{IsSource, IsTarget, IsInstr}
 use Rattle.loda_syntax.specs.Lines.{content, word_of, operands_of}
 use Rattle.loda_syntax.specs.Words.{word_read}
-use Rattle.loda_syntax.specs.Grammar.{◌>>=◌, number_of, signed_by, in_memory, cell_of, with_cell, in_range, after_dollar, operand_read, good_operand, all_read, operands_read, loop_over, clear_of, call_of, instr_read, content_read, of_content, line_read, least_operands, most_operands}
+use Rattle.text_parts.specs.Digits.{number_of}
+use Rattle.loda_syntax.specs.Grammar.{◌>>=◌, signed_by, in_memory, cell_of, with_cell, in_range, after_dollar, operand_read, good_operand, all_read, operands_read, loop_over, clear_of, call_of, instr_read, content_read, of_content, line_read, least_operands, most_operands}
 use Rattle.loda_syntax.proofs.Results.{IfOk-bind, IfOk-cond}
 
 -- each operand is in range

@@ -8,7 +8,8 @@ use Rattle.std.proofs.lemmas.List.{length-map}
 use Rattle.loda_syntax.specs.declared.operand.Written.{Written}
 use Rattle.loda_syntax.specs.declared.error.SyntaxKind.TheVariants.{BadOperand}
 use Rattle.loda_syntax.specs.Cuts.{IsCut, IsUncut}
-use Rattle.loda_syntax.specs.Lines.{trim, cut_operands}
+use Rattle.text_parts.specs.Blanks.{trim}
+use Rattle.loda_syntax.specs.Lines.{cut_operands}
 use Rattle.loda_syntax.specs.Grammar.{operand_read, operands_read, all_read}
 
 abbrev pub comma : ℕ → Bool

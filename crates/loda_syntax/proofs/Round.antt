@@ -18,8 +18,10 @@ use Rattle.loda_syntax.specs.declared.word.Word.TheVariants as word
 use Rattle.loda_syntax.specs.WellFormed.{IsSource, IsTarget, IsInstr, IsProgram, IsBalanced}
 use Rattle.loda_syntax.specs.Programs.{Text}
 use Rattle.loda_syntax.specs.Words.{word_read, word_text}
-use Rattle.loda_syntax.specs.Lines.{lines, is_blank, trim, without_return, content, word_of, operands_of, cut_operands}
-use Rattle.loda_syntax.specs.Grammar.{number_of, in_memory, with_cell, in_range, operand_read, least_operands, most_operands, all_read, operands_read, loop_over, clear_of, call_of, instr_read, content_read, of_content, line_read}
+use Rattle.text_parts.specs.Blanks.{is_blank, trim, without_return}
+use Rattle.loda_syntax.specs.Lines.{lines, content, word_of, operands_of, cut_operands}
+use Rattle.text_parts.specs.Digits.{number_of}
+use Rattle.loda_syntax.specs.Grammar.{in_memory, with_cell, in_range, operand_read, least_operands, most_operands, all_read, operands_read, loop_over, clear_of, call_of, instr_read, content_read, of_content, line_read}
 use Rattle.loda_syntax.specs.Reading.{Draft, draft_of, open_after, with_line, fault_at, with_lines, blank, text_read}
 use Rattle.loda_syntax.specs.Canon.{operand_text, operand_texts, instr_word, instr_operands, instr_text, depth_at, depth_after, line_text, lines_text, canon}
 use Rattle.loda_syntax.proofs.Operands.{comma}

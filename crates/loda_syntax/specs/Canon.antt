@@ -10,11 +10,13 @@ use Rattle.loda_syntax.specs.declared.instr.Instr.TheVariants.{Arith, Clear, Loo
 use Rattle.loda_syntax.specs.declared.word.Word.{Word}
 use Rattle.loda_syntax.specs.declared.word.Word.TheVariants as word
 
+-- an operand: a decimal number, or a cell behind one `$` or two
 abbrev pub operand_text : Operand → List ℕ
 operand_text (Constant v) = signed_decimal v
 operand_text (Direct c) = 36 ∷ decimal c
 operand_text (Indirect c) = 36 ∷ 36 ∷ decimal c
 
+-- the word that an instruction begins with
 abbrev pub instr_word : Instr → Word
 instr_word (Arith verb t s) = word.Operation verb
 instr_word (Clear c n) = word.Clear

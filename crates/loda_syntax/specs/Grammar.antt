@@ -15,6 +15,7 @@
 use Rattle.std.specs.Prelude.{ℕ, zero, suc, ℤ, pos, negsuc, ◌+◌, ◌-◌, ◌*◌, ◌^◌, List, [], ◌∷◌, length, map, ◌==◌, ◌||◌, ◌&&◌, nat_le, nat_lt, if◌then◌else◌, Option, Some, None, Result, Ok, Err, Bool, true, false}
 use Rattle.std.specs.Char.{is_ascii_digit}
 use Rattle.std.specs.List.{list_any, filter_map}
+use Rattle.text_parts.specs.Digits.{number_of}
 use Rattle.loda_syntax.specs.Lines.{content, word_of, operands_of}
 use Rattle.loda_syntax.specs.Words.{word_read}
 use Rattle.loda_syntax.specs.declared.instr.Operand.{Operand}
@@ -28,6 +29,7 @@ use Rattle.loda_syntax.specs.declared.word.Word.TheVariants.{Operation, Clear, L
 use Rattle.loda_syntax.specs.declared.error.SyntaxKind.{SyntaxKind}
 use Rattle.loda_syntax.specs.declared.error.SyntaxKind.TheVariants.{BadOperand, WideLiteral, ConstantTarget, Unsupported}
 
+-- what follows a value, where there is one, and else the fault
 infixl 10 ◌>>=◌
 abbrev pub ◌>>=◌ : {A B E : Type 0} → Result A E → (A → Result B E) → Result B E
 (Ok x) >>= f = f x
@@ -35,16 +37,7 @@ abbrev pub ◌>>=◌ : {A B E : Type 0} → Result A E → (A → Result B E) �
 
 -- ---- an operand
 
--- the number that digits spell after n, or nothing where another byte stands there
-abbrev pub digits_after : ℕ → List ℕ → Option ℕ
-digits_after n [] = Some n
-digits_after n (b ∷ bs) = if is_ascii_digit b then digits_after (10 * n + (b - 48)) bs else None
-
--- the number that digits spell, of which there is at least one
-abbrev pub number_of : List ℕ → Option ℕ
-number_of [] = None
-number_of (b ∷ bs) = digits_after 0 (b ∷ bs)
-
+-- minus this number
 abbrev pub negative : ℕ → ℤ
 negative zero = pos 0
 negative (suc n) = negsuc n
@@ -59,9 +52,11 @@ abbrev pub in_memory : Option ℕ → Option ℕ
 in_memory None = None
 in_memory (Some c) = if nat_lt c 4096 then Some c else None
 
+-- the cell that digits spell
 abbrev pub cell_of : List ℕ → Option ℕ
 cell_of digits = in_memory (number_of digits)
 
+-- a cell as an operand of this form, or a bad operand
 abbrev pub with_cell : (ℕ → Operand) → Option ℕ → Written
 with_cell form None = Bad
 with_cell form (Some c) = Good (form c)
@@ -91,6 +86,7 @@ least_operands LoopStart = 1
 least_operands LoopEnd = 0
 least_operands Call = 2
 
+-- the greatest
 abbrev pub most_operands : Word → ℕ
 most_operands (Operation verb) = 2
 most_operands Clear = 2
@@ -98,14 +94,17 @@ most_operands LoopStart = 2
 most_operands LoopEnd = 0
 most_operands Call = 2
 
+-- whether the operand has no form of an operand
 abbrev pub is_bad : Written → Bool
 is_bad Bad = true
 is_bad other = false
 
+-- whether the number is too wide
 abbrev pub is_wide : Written → Bool
 is_wide Wide = true
 is_wide other = false
 
+-- the operand, where it is neither
 abbrev pub good_operand : Written → Option Operand
 good_operand (Good operand) = Some operand
 good_operand other = None
@@ -155,6 +154,7 @@ content_read text = do
   operands ← operands_read (least_operands word) (most_operands word) (operands_of text)
   instr_read word operands
 
+-- the instruction of a content, nothing where it is empty
 abbrev pub of_content : List ℕ → Result (Option Instr) SyntaxKind
 of_content [] = Ok None
 of_content (b ∷ bs) = content_read (b ∷ bs) >>= λ i. Ok (Some i)

@@ -1,31 +1,11 @@
 -- A text's lines, and the parts of a line.
 use Rattle.std.specs.Prelude.{ℕ, List, [], ◌∷◌, reverse, map, length, take, slice_index, ◌-◌, ◌==◌, ◌||◌, if◌then◌else◌, Bool}
 use Rattle.std.specs.List.{slice_split, before_first, after_first}
+use Rattle.text_parts.specs.Blanks.{is_blank, trim, without_return}
 
 -- the lines, cut at each LF; what stands after the last LF is a line too, and it may be empty
 abbrev pub lines : List ℕ → List (List ℕ)
 lines text = slice_split (λ b. b == 10) text
-
--- a space or a tab
-abbrev pub is_blank : ℕ → Bool
-is_blank b = b == 32 || b == 9
-
--- without the blanks at its front
-abbrev pub trim_front : List ℕ → List ℕ
-trim_front [] = []
-trim_front (b ∷ bs) = if is_blank b then trim_front bs else b ∷ bs
-
--- without the blanks at its end
-abbrev pub trim_back : List ℕ → List ℕ
-trim_back text = reverse (trim_front (reverse text))
-
--- without the blanks at both ends
-unfoldable pub trim : List ℕ → List ℕ
-trim text = trim_back (trim_front text)
-
--- without one CR at its end
-unfoldable pub without_return : List ℕ → List ℕ
-without_return line = if slice_index line (length line - 1) == 13 then take (length line - 1) line else line
 
 -- what counts of a line: what stands before the comment, which begins at the first `;`, without blanks at both ends
 unfoldable pub content : List ℕ → List ℕ

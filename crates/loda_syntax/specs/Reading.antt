@@ -19,6 +19,7 @@ pub record Draft : Type 0 where
   pub list : List Instr
   pub open_at : List ℕ
 
+-- a draft by its parts
 abbrev pub draft_of : List Instr → List ℕ → Draft
 draft_of list open_at = record { list = list; open_at = open_at }
 
@@ -54,6 +55,7 @@ with_instr line draft (Some instr) = open_after line instr draft.open_at >>= add
 unfoldable pub with_line : ℕ → Draft → List ℕ → Result Draft SyntaxKind
 with_line line draft text = line_read text >>= with_instr line draft
 
+-- a fault with the line that it stands in
 abbrev pub fault_at : {A : Type 0} → ℕ → Result A SyntaxKind → Result A TextFault
 fault_at line (Ok x) = Ok x
 fault_at line (Err kind) = Err (record { line = line; kind = kind })
@@ -63,6 +65,7 @@ unfoldable pub with_lines : ℕ → Draft → List (List ℕ) → Result Draft T
 with_lines line draft [] = Ok draft
 with_lines line draft (text ∷ texts) = fault_at line (with_line line draft text) >>= λ next. with_lines (line + 1) next texts
 
+-- the list, or LoopOpen at the innermost loop that is not ended
 abbrev pub closed_by : List Instr → List ℕ → Result Text TextFault
 closed_by list [] = Ok list
 closed_by list (line ∷ lines) = Err (record { line = line; kind = kinds.LoopOpen })

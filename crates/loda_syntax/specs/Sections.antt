@@ -6,6 +6,7 @@ use Rattle.loda_syntax.specs.Lines.{lines}
 abbrev pub IsNoHeader : List ℕ → Type 0
 IsNoHeader line = (slice_index line 0 ≢ 61) × (slice_index line 0 ≢ 63)
 
+-- none of the lines begins with one of the signs
 abbrev pub NoHeaders : List (List ℕ) → Type 0
 NoHeaders [] = Unit {0}
 NoHeaders (line ∷ lines) = IsNoHeader line × NoHeaders lines

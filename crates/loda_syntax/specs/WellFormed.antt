@@ -5,14 +5,13 @@ use Rattle.loda_syntax.specs.declared.instr.Operand.TheVariants.{Constant, Direc
 use Rattle.loda_syntax.specs.declared.instr.Instr.{Instr}
 use Rattle.loda_syntax.specs.declared.instr.Instr.TheVariants.{Arith, Clear, LoopStart, LoopEnd, Call}
 
-abbrev pub IsCell : ℕ → Type 0
-IsCell c = c < 4096
-
+-- an operand that may be written to: a cell from 0 to 4095, or one that holds the address
 abbrev pub IsTarget : Operand → Type 0
 IsTarget (Constant v) = ⊥
 IsTarget (Direct c) = c < 4096
 IsTarget (Indirect c) = c < 4096
 
+-- an operand that may be read: such a cell, or a constant in the number range
 abbrev pub IsSource : Operand → Type 0
 IsSource (Constant v) = unsigned_abs v < 2 ^ 127
 IsSource (Direct c) = c < 4096

@@ -12,6 +12,7 @@ use Rattle.loda_syntax.specs.declared.error.SyntaxKind.TheVariants.{Directive, U
 abbrev pub verbs : List Verb
 verbs = Mov ∷ Add ∷ Sub ∷ Trn ∷ Mul ∷ Div ∷ Dif ∷ Mod ∷ Pow ∷ Gcd ∷ Bin ∷ Equ ∷ Neq ∷ Leq ∷ Geq ∷ Min ∷ Max ∷ []
 
+-- the word of an operation
 abbrev pub verb_text : Verb → List ℕ
 verb_text Mov = codes "mov"
 verb_text Add = codes "add"
@@ -35,6 +36,7 @@ verb_text Max = codes "max"
 abbrev pub words : List Word
 words = map Operation verbs ++ Clear ∷ LoopStart ∷ LoopEnd ∷ Call ∷ []
 
+-- the word as a text has it
 abbrev pub word_text : Word → List ℕ
 word_text (Operation verb) = verb_text verb
 word_text Clear = codes "clr"
@@ -51,6 +53,7 @@ abbrev pub is_directive : List ℕ → Bool
 is_directive [] = false
 is_directive (b ∷ bs) = b == 35
 
+-- the word that was found, or the fault of a text that is none
 abbrev pub known : Option Word → List ℕ → Result Word SyntaxKind
 known (Some word) text = Ok word
 known None text = if list_any (λ other. bytes_eq other text) refused then Err Unsupported else Err UnknownOp

@@ -1,4 +1,5 @@
-// The instruction of a line.
+//! The instruction of a line.
+
 ghost use Rattle.std.specs.Prelude.{◌≡◌, ◌<◌, ◌^◌, [], ◌∷◌, length, pos};
 ghost use Rattle.std.specs.Option.{option_to_list};
 ghost use Rattle.loda_syntax.specs.Grammar.{content_read, line_read, loop_over, clear_of, call_of, instr_read};

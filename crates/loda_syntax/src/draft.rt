@@ -1,4 +1,5 @@
-// The lines of a program that were read so far.
+//! The lines of a program that were read so far.
+
 ghost use Rattle.std.specs.Prelude.{◌≡◌, reverse};
 ghost use Rattle.loda_syntax.specs.declared.error.ParseError.TheVariants.{Syntax};
 ghost use Rattle.loda_syntax.specs.Answers.{Answers, Gives};

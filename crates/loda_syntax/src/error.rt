@@ -1,4 +1,5 @@
-// Why a text isn't a program.
+//! Why a text isn't a program.
+
 ghost use Rattle.std.specs.Prelude.{◌≡◌};
 ghost use Rattle.loda_syntax.specs.declared.error.ParseError.TheVariants.{Memory};
 

@@ -1,13 +1,18 @@
-// Laws of the definitions, each the clause of a function that only looks at its argument.
+//! Laws of the definitions, each the clause of a function that only looks at its argument.
+
 ghost use Rattle.loda_syntax.specs.Canon.{canon};
-ghost use Rattle.loda_syntax.specs.Laws.{ReadsBack, HasOneMeaning, ReadsAgain};
+ghost use Rattle.loda_syntax.specs.Laws.{Reads, ReadsBack, HasOneMeaning, ReadsAgain};
+ghost use Rattle.loda_syntax.specs.Programs.{instrs};
 ghost use Rattle.loda_syntax.specs.Sections.{IsSection};
+ghost use Rattle.loda_syntax.specs.Trees.{IsSpelledByTree};
 
 use crate::program::Program;
 
-/// The canonical text of a program reads as that program: `parse` of what `print` adds answers an equal program.
+/// The canonical text of a program reads as that program: `parse` of what `print` adds answers an equal program, and the
+/// lines of the text are the program's instructions.
 pub fn canonical_text_reads_back(program: &Program)
-    ensures { ReadsBack program.now }
+    ensures reader { ReadsBack program.now }
+    ensures relation { Reads (canon program.now) program.now }
 {
     let _list = program.instrs();
 }
@@ -29,6 +34,14 @@ pub fn text_reads_again(text: &[u8])
 /// The canonical text stands in a file of sections: none of its lines begins with `=` or `?`, and it ends with LF or is empty.
 pub fn canonical_text_is_a_section(program: &Program)
     ensures { IsSection (canon program.now) }
+{
+    let _list = program.instrs();
+}
+
+/// The tree of a program is the program: spelled out, a step as its instruction and a loop as its start, its body and its
+/// end, it gives the program's list back.
+pub fn tree_spells_its_program(program: &Program)
+    ensures { IsSpelledByTree (instrs program.now) }
 {
     let _list = program.instrs();
 }

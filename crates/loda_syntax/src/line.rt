@@ -1,59 +1,12 @@
-// The parts of a line.
+//! The parts of a line.
+
 ghost use Rattle.std.specs.Prelude.{◌≡◌, ◌==◌, ◌≤◌, length, position, IfSome, IfNone};
 ghost use Rattle.std.specs.List.{before_first, after_first};
 ghost use Rattle.loda_syntax.specs.Cuts.{IsCut, IsUncut};
-ghost use Rattle.loda_syntax.specs.Lines.{is_blank, trim_front, trim_back, trim, without_return, content, word_of};
+ghost use Rattle.text_parts.specs.Blanks.{is_blank, trim_front, trim_back, trim, without_return};
+ghost use Rattle.loda_syntax.specs.Lines.{content, word_of};
 
-fn is_blank(byte: u8) -> bool
-    ensures { result ≡ is_blank byte }
-{
-    byte == b' ' || byte == b'\t'
-}
-
-fn trim_front(text: &[u8]) -> &[u8]
-    ensures { result.now ≡ trim_front text.now }
-{
-    let mut rest = text;
-    while let [first, tail @ ..] = rest {
-        if !is_blank(*first) {
-            return rest;
-        }
-        rest = tail;
-    }
-    rest
-}
-
-fn trim_back(text: &[u8]) -> &[u8]
-    ensures { result.now ≡ trim_back text.now }
-{
-    let mut rest = text;
-    while let [front @ .., last] = rest {
-        if !is_blank(*last) {
-            return rest;
-        }
-        rest = front;
-    }
-    rest
-}
-
-/// The text without the blanks at both ends.
-#[tactic(auto, unfolding(crate::specs::Lines::trim))]
-pub(crate) fn trim(text: &[u8]) -> &[u8]
-    ensures { result.now ≡ trim text.now }
-{
-    trim_back(trim_front(text))
-}
-
-#[tactic(auto, unfolding(crate::specs::Lines::without_return))]
-fn without_return(line: &[u8]) -> &[u8]
-    ensures { result.now ≡ without_return line.now }
-{
-    if !line.is_empty() && line[line.len() - 1] == b'\r' {
-        &line[..line.len() - 1]
-    } else {
-        line
-    }
-}
+use text_parts::{is_blank, trim, without_return};
 
 fn place_of(text: &[u8], byte: u8) -> Option<usize>
     ensures { result ≡ position (λ b. b == byte) text.now }

@@ -1,12 +1,15 @@
-// Reading operands.
+//! Reading operands.
+
 ghost use Rattle.std.specs.Prelude.{◌≡◌, ◌+◌, ◌*◌, ◌^◌, ◌≤◌, ◌<◌, min, [], ◌∷◌, List, length, MatchResult};
 ghost use Rattle.std.specs.Option.{option_map, option_to_list};
-ghost use Rattle.loda_syntax.specs.Grammar.{number_of, cell_of, in_range, operand_read, operands_read, all_read};
+ghost use Rattle.text_parts.specs.Digits.{number_of};
+ghost use Rattle.loda_syntax.specs.Grammar.{cell_of, in_range, operand_read, operands_read, all_read};
 ghost use Rattle.loda_syntax.specs.Lines.{cut_operands};
 
 use crate::error::SyntaxKind;
 use crate::instr::Operand;
-use crate::line::{cut_at, trim};
+use crate::line::cut_at;
+use text_parts::{number_up_to, trim};
 
 // The least absolute value that is too wide.
 const WIDE: u128 = 1 << 127;
@@ -21,35 +24,10 @@ pub(crate) enum Written {
     Good(Operand),
 }
 
-// The number that digits spell, or `WIDE` where it is no less.
-fn magnitude(digits: &[u8]) -> Option<u128>
-    ensures { result ≡ option_map (λ n. min n (2 ^ 127)) (number_of digits.now) }
-{
-    if digits.is_empty() {
-        return None;
-    }
-    let mut number = 0;
-    for digit in digits {
-        if !digit.is_ascii_digit() {
-            return None;
-        }
-        number = next_number(number, *digit - b'0');
-    }
-    Some(number)
-}
-
-fn next_number(number: u128, digit: u8) -> u128
-    requires number { number ≤ 2 ^ 127 }
-    requires digit { digit < 10 }
-    ensures { result ≡ min (10 * number + digit) (2 ^ 127) }
-{
-    (number.saturating_mul(10).saturating_add(u128::from(digit))).min(WIDE)
-}
-
 fn cell_of(digits: &[u8]) -> Option<u16>
     ensures { result ≡ cell_of digits.now }
 {
-    match magnitude(digits) {
+    match number_up_to(digits, WIDE) {
         Some(cell) if cell < 4096 => Some(cell as u16),
         _ => None,
     }
@@ -58,7 +36,7 @@ fn cell_of(digits: &[u8]) -> Option<u16>
 fn constant_of(minus: bool, digits: &[u8]) -> Written
     ensures { result ≡ in_range minus (number_of digits.now) }
 {
-    let Some(number) = magnitude(digits) else {
+    let Some(number) = number_up_to(digits, WIDE) else {
         return Written::Bad;
     };
     if number == WIDE {

@@ -1,4 +1,5 @@
-// Printing a program.
+//! Printing a program.
+
 ghost use Rattle.std.specs.Prelude.{◌≡◌, ◌++◌, ◌∷◌, [], ◌*◌, ◌<◌, OnOk, OnErr, replicate, vec_len};
 ghost use Rattle.loda_syntax.specs.Words.{word_text};
 ghost use Rattle.loda_syntax.specs.Canon.{canon, operand_text, instr_text, line_text, depth_at, depth_after, operand_texts};

@@ -1,4 +1,5 @@
-// A well-formed program.
+//! A well-formed program.
+
 ghost use Rattle.std.specs.Prelude.{◌≡◌, ◌↔◌, ◌+◌, ◌≤◌, IfOk, IfErr, OnErr, List, IsTrue, length, All, zero};
 ghost use Rattle.loda_syntax.specs.WellFormed.{IsProgram, IsTarget, IsSource, IsInstr, IsBalanced};
 

@@ -1,4 +1,5 @@
-// Reading a program's text.
+//! Reading a program's text.
+
 ghost use Rattle.std.specs.Prelude.{◌≡◌, ◌<◌, ◌^◌, ◌+◌, length, reverse, IfOk, IfErr};
 ghost use Rattle.loda_syntax.specs.Reading.{text_read, with_instr, with_line, open_after, fault_at};
 ghost use Rattle.loda_syntax.specs.Answers.{Answers};

@@ -1,4 +1,5 @@
-// Texts and their programs or faults, by the grammar.
+//! Texts and their programs or faults, by the grammar.
+
 use crate::error::SyntaxKind::{
     BadOperand, ConstantTarget, Directive, LoopClose, LoopOpen, TooLong, UnknownOp, Unsupported,
     WideLiteral,
@@ -224,12 +225,16 @@ fn any_bytes(rt: HostRuntime) -> Result<(), Fail> {
     Ok(())
 }
 
+fn is_shared<T: Send + Sync>(_value: &T) -> bool {
+    true
+}
+
 #[test]
 fn lists_of_instructions(rt: HostRuntime) -> Result<(), Fail> {
     let alloc = rt.alloc();
     let one = Instr::LoopStart { start: 0, len: 1 };
     let program = Program::new(vec![in alloc; one, Instr::LoopEnd]?);
-    assert!(rt; program.is_ok());
+    assert!(rt; program.is_ok() && is_shared(&program));
     for instr in [
         one,
         Instr::LoopEnd,

@@ -1,4 +1,5 @@
-// The word that begins an instruction.
+//! The word that begins an instruction.
+
 ghost use Rattle.std.specs.Prelude.{◌≡◌, bytes_eq, find};
 ghost use Rattle.std.specs.List.{list_any};
 ghost use Rattle.loda_syntax.specs.Words.{word_read, word_text, verb_text, is_directive, refused, words};

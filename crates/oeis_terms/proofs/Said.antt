@@ -8,12 +8,16 @@ use Rattle.checked_numbers.specs.Numbers.{is_number}
 use Rattle.std.proofs.lemmas.List.Sums.{sum_by-cons}
 use Rattle.oeis_terms.specs.declared.error.TermsKind.{TermsKind}
 use Rattle.oeis_terms.specs.declared.error.TermsKind.TheVariants.{BadName, NoComma}
-use Rattle.oeis_terms.specs.Cut.{Pieces, pieces, with_byte, ends_with, without_cr, is_blank, before_blanks, without_blanks, trimmed}
+use Rattle.text_parts.specs.Blanks.{without_return, is_blank, trim_back}
+use Rattle.oeis_terms.specs.Cut.{Pieces, pieces, with_byte, ends_with, trimmed}
 use Rattle.oeis_terms.specs.Items.{◌>>=◌, items_from}
-use Rattle.oeis_terms.specs.Numbers.{number_of, integer_of}
-use Rattle.oeis_terms.specs.Line.{six_digits, name_at, term_at, integers_from, usable, usable_terms, is_ended, terms_of, row_at, is_silent, said}
+use Rattle.text_parts.specs.Digits.{number_of}
+use Rattle.oeis_terms.specs.Numbers.{integer_of}
+use Rattle.text_parts.specs.Names.{name_read}
+use Rattle.oeis_terms.specs.Line.{named, name_at, term_at, integers_from, usable, usable_terms, is_ended, terms_of, row_at, is_silent, said}
 use Rattle.oeis_terms.specs.Table.{Row}
-use Rattle.oeis_terms.proofs.Digits.{below_power}
+use Rattle.text_parts.proofs.Shorter.{back-length, return-length}
+use Rattle.text_parts.proofs.NameBack.{read_is_name}
 
 bind_ok : {A B : Type 0} (r : Result A TermsKind) (f : A → Result B TermsKind) (y : B) → (r >>= f) ≡ Ok y → (x : A) × (r ≡ Ok x) × (f x ≡ Ok y)
 bind_ok (Ok x) f y e = (x, refl, e)
@@ -57,38 +61,17 @@ said_parts line row e = parts (trimmed line) row (if_silent (is_silent (trimmed 
 
 -- ---- the name
 
-some_six : (o : Option ℕ) (rest : List ℕ) (x : ℕ × List ℕ) → six_digits o rest ≡ Ok x → (o ≡ Some x.0) × (0 < x.0) × (rest ≡ x.1)
-some_six None rest x e = absurd cc
-some_six (Some n) rest x e = not_zero (eqb n 0) refl e
-  where
-    not_zero : (b : Bool) → eqb n 0 ≡ b → cond b (Err BadName) (Ok (n, rest)) ≡ Ok x → (Some n ≡ Some x.0) × (0 < x.0) × (rest ≡ x.1)
-    not_zero true z h = absurd cc
-    not_zero false z h =
-        let same : n ≡ x.0 = cc in
-        let positive : 0 < n = grind (arith, nat_tests) in
-        (ap (λ (k : ℕ). Some k) same, rw same at positive, cc)
-
-small : (ds : List ℕ) (n : ℕ) → length ds ≡ 6 → number_of ds ≡ Some n → n < 1_000_000
-small [] n len e = absurd (omega arith)
-small (d ∷ ds) n len e = let below = below_power (d ∷ ds) 0 n e in let b : n < (0 + 1) * 10 ^ 6 = rw len at below in omega arith
-
-both : (a b : Bool) → (a && b) ≡ true → b ≡ true
-both true b e = e
-both false b e = absurd cc
+named_ok : (o : Option ℕ) (rest : List ℕ) (x : ℕ × List ℕ) → named o rest ≡ Ok x → (o ≡ Some x.0) × (rest ≡ x.1)
+named_ok None rest x e = absurd cc
+named_ok (Some n) rest x e = (cc, cc)
 
 -- a name is from 1 to 999,999, and stands in the first seven bytes
 pub name_facts : (line : List ℕ) (x : ℕ × List ℕ) → name_at line ≡ Ok x → (0 < x.0) × (x.0 < 1_000_000) × (length x.1 ≤ length line)
-name_facts [] x e = absurd cc
-name_facts (c ∷ cs) x e =
-    let first = if_ok (eqb c 65 && leb 6 (length cs)) (six_digits (number_of (take 6 cs)) (drop 6 cs)) BadName x e in
-    let six = some_six (number_of (take 6 cs)) (drop 6 cs) x first.1 in
-    let enough : 6 ≤ length cs = at_least (length cs) (both (eqb c 65) (leb 6 (length cs)) first.0) in
-    let len : length (take 6 cs) ≡ 6 = omega (arith, length-take 6 cs) in
-    let rest : length x.1 ≡ length cs - 6 = ap length (sym six.2) ∙ length-drop 6 cs in
-    (six.1, small (take 6 cs) x.0 len six.0, omega arith)
-  where
-    at_least : (n : ℕ) → leb 6 n ≡ true → 6 ≤ n
-    at_least n h = grind (arith, nat_tests)
+name_facts line x e =
+    let named = named_ok (name_read (take 7 line)) (drop 7 line) x e in
+    let is = read_is_name (take 7 line) x.0 named.0 in
+    let rest : length x.1 ≡ length line - 7 = ap length (sym named.1) ∙ length-drop 7 line in
+    (omega (arith, is.0), omega (arith, is.1), omega arith)
 
 -- ---- the number of terms
 
@@ -137,25 +120,8 @@ terms_count (b ∷ c ∷ rest) terms e =
 
 -- ---- trimming
 
-shorter : (c : ℕ) (ds : List ℕ) → length (before_blanks c ds) ≤ length ds + 1
-shorter c [] = in_case (is_blank c)
-  where
-    in_case : (b : Bool) → length (cond b [] (c ∷ [])) ≤ 1
-    in_case true = omega arith
-    in_case false = omega arith
-shorter c (d ∷ ds) = omega arith
-
-without_blanks-length : (line : List ℕ) → length (without_blanks line) ≤ length line
-unfolding without_blanks
-without_blanks-length [] = omega arith
-without_blanks-length (c ∷ cs) = omega (arith, shorter c (without_blanks cs), without_blanks-length cs)
-
-without_cr-length : (b : Bool) (n : ℕ) (line : List ℕ) → length (cond b (take n line) line) ≤ length line
-without_cr-length true n line = omega (arith, length-take n line)
-without_cr-length false n line = omega arith
-
 trimmed-length : (line : List ℕ) → length (trimmed line) ≤ length line
-trimmed-length line = omega (arith, without_blanks-length (without_cr line), without_cr-length (ends_with 13 line) (length line - 1) line)
+trimmed-length line = omega (arith, back-length (without_return line), return-length line)
 
 pub row_facts : (line : List ℕ) (row : Row) → said line ≡ Ok (Some row) → (0 < row.0) × (row.0 < 1_000_000) × (2 * length row.1 ≤ length line)
 row_facts line row e =

@@ -1,6 +1,7 @@
 -- Bytes cut after each byte of a kind, such as lines and pieces before a comma.
 use Rattle.std.specs.Prelude.{ℕ, List, [], ◌∷◌, ◌++◌, ◌-◌, ◌==◌, ◌&&◌, ◌||◌, not, Bool, length, take, slice_index, if◌then◌else◌, Option, Some, None}
 use Rattle.std.specs.Option.{option_map}
+use Rattle.text_parts.specs.Blanks.{trim_back, without_return}
 
 -- the bytes before the first c, and those after it
 abbrev pub first_cut : ℕ → List ℕ → Option (List ℕ × List ℕ)
@@ -12,10 +13,12 @@ pub record Pieces : Type 0 where
   pub ended : List (List ℕ)
   pub rest : List ℕ
 
+-- the pieces with one more byte in front
 abbrev pub with_byte : ℕ → List (List ℕ) → List ℕ → Pieces
 with_byte b [] rest = record { ended = []; rest = b ∷ rest }
 with_byte b (p ∷ ps) rest = record { ended = (b ∷ p) ∷ ps; rest = rest }
 
+-- the pieces of bytes, each ended by c but for what stands last
 unfoldable pub pieces : ℕ → List ℕ → Pieces
 pieces c [] = record { ended = []; rest = [] }
 pieces c (b ∷ bs) = if b == c then record { ended = [] ∷ (pieces c bs).ended; rest = (pieces c bs).rest } else with_byte b (pieces c bs).ended (pieces c bs).rest
@@ -29,25 +32,10 @@ abbrev pub lines_left : Option (List ℕ) → List (List ℕ)
 lines_left None = []
 lines_left (Some text) = lines text
 
+-- whether c is the last byte
 abbrev pub ends_with : ℕ → List ℕ → Bool
 ends_with c line = not (length line == 0) && slice_index line (length line - 1) == c
 
-abbrev pub without_cr : List ℕ → List ℕ
-without_cr line = if ends_with 13 line then take (length line - 1) line else line
-
--- a space or a tab
-abbrev pub is_blank : ℕ → Bool
-is_blank c = c == 32 || c == 9
-
-abbrev pub before_blanks : ℕ → List ℕ → List ℕ
-before_blanks c [] = if is_blank c then [] else c ∷ []
-before_blanks c (d ∷ ds) = c ∷ d ∷ ds
-
--- the bytes without the blanks at their end
-unfoldable pub without_blanks : List ℕ → List ℕ
-without_blanks [] = []
-without_blanks (c ∷ cs) = before_blanks c (without_blanks cs)
-
 -- a line without its carriage return and the blanks at its end
 abbrev pub trimmed : List ℕ → List ℕ
-trimmed line = without_blanks (without_cr line)
+trimmed line = trim_back (without_return line)

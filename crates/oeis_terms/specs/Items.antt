@@ -1,6 +1,7 @@
 -- Items that stand one after the other, read from the left, each at its place.
 use Rattle.std.specs.Prelude.{ℕ, List, [], ◌∷◌, Result, Ok, Err}
 
+-- what follows a value, where there is one, and else the fault
 infixl 10 ◌>>=◌
 abbrev pub ◌>>=◌ : {A B E : Type 0} → Result A E → (A → Result B E) → Result B E
 (Ok x) >>= f = f x

@@ -1,22 +1,25 @@
 -- One line of the stripped file of the OEIS.
 use Rattle.std.specs.Prelude.{ℕ, ◌+◌, ◌==◌, ◌||◌, ◌&&◌, nat_le, Bool, if◌then◌else◌, ℤ, List, [], ◌∷◌, length, take, drop, slice_index, take_while, Option, Some, None, Result, Ok, Err}
+use Rattle.text_parts.specs.Names.{name_read}
 use Rattle.checked_numbers.specs.Numbers.{is_number}
 use Rattle.oeis_terms.specs.declared.error.TermsKind.{TermsKind}
 use Rattle.oeis_terms.specs.declared.error.TermsKind.TheVariants.{BadName, NoComma, BadTerm}
 use Rattle.oeis_terms.specs.Cut.{pieces, ends_with, trimmed}
 use Rattle.oeis_terms.specs.Items.{◌>>=◌, items_from}
-use Rattle.oeis_terms.specs.Numbers.{number_of, integer_of}
+use Rattle.text_parts.specs.Digits.{number_of}
+use Rattle.oeis_terms.specs.Numbers.{integer_of}
 use Rattle.oeis_terms.specs.Table.{Row}
 
-abbrev pub six_digits : Option ℕ → List ℕ → Result (ℕ × List ℕ) TermsKind
-six_digits None rest = Err BadName
-six_digits (Some n) rest = if n == 0 then Err BadName else Ok (n, rest)
+-- the name that was read, and the bytes after it
+abbrev pub named : Option ℕ → List ℕ → Result (ℕ × List ℕ) TermsKind
+named None rest = Err BadName
+named (Some name) rest = Ok (name, rest)
 
--- `A` and six digits that are not all 0, and the bytes after them
+-- an A-number in the first seven bytes, and the bytes after it
 abbrev pub name_at : List ℕ → Result (ℕ × List ℕ) TermsKind
-name_at [] = Err BadName
-name_at (c ∷ cs) = if c == 65 && nat_le 6 (length cs) then six_digits (number_of (take 6 cs)) (drop 6 cs) else Err BadName
+name_at line = named (name_read (take 7 line)) (drop 7 line)
 
+-- the term that stands in this column
 abbrev pub term_at : ℕ → Option ℤ → Result ℤ TermsKind
 term_at column None = Err (BadTerm column)
 term_at column (Some z) = Ok z

@@ -14,6 +14,7 @@ use Rattle.oeis_terms.specs.Line.{said}
 use Rattle.oeis_terms.specs.Stripped.{rows_in, first_fault}
 use Rattle.oeis_terms.specs.Table.{Row, is_kept, is_skipped}
 
+-- the error is the one that was read, or want of memory
 abbrev pub Fails : {Y : Type 0} → LineError → Result Y TermsKind → Type 0
 Fails errors.Memory read = Unit {0}
 Fails (errors.Bad kind) read = read ≡ Err kind
@@ -34,6 +35,7 @@ pub record State : Type 0 where
   pub kept : List Row
   pub skipped : ℕ
 
+-- the state as the code keeps it
 abbrev pub state_of : Reading → State
 state_of r = record { seen = r.seen.items; kept = r.kept.items; skipped = r.skipped }
 
@@ -44,6 +46,7 @@ pub record Reflects (rows : List Row) (state : State) : Type 0 where
   pub kept : state.kept ≡ filter is_kept rows
   pub skipped : state.skipped ≡ count_by is_skipped rows
 
+-- the state after one more row
 abbrev pub with_row : State → Row → State
 with_row s row = record {
   seen = slice_set s.seen row.0 true;
@@ -51,6 +54,7 @@ with_row s row = record {
   skipped = if is_kept row then s.skipped else s.skipped + 1;
 }
 
+-- the same, where the line is a row: a name that was seen is a fault
 abbrev pub after_row : State → Option Row → Result State TermsKind
 after_row s None = Ok s
 after_row s (Some row) = if slice_index_or s.seen row.0 false then Err (Repeated row.0) else Ok (with_row s row)
@@ -59,6 +63,7 @@ after_row s (Some row) = if slice_index_or s.seen row.0 false then Err (Repeated
 abbrev pub after_line : State → List ℕ → Result State TermsKind
 after_line s line = said line >>= λ row. after_row s row
 
+-- an error of a line, with the line
 abbrev pub error_in : ℕ → LineError → TermsError
 error_in line (errors.Bad kind) = faults.Bad line kind
 error_in line errors.Memory = faults.Memory

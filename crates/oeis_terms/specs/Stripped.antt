@@ -27,6 +27,7 @@ pub record Fault : Type 0 where
   pub line : ℕ
   pub kind : TermsKind
 
+-- a line's own fault, and else the first of the lines behind it
 abbrev pub or_later : Option TermsKind → ℕ → Option Fault → Option Fault
 or_later None line later = later
 or_later (Some kind) line later = Some (record { line = line; kind = kind })
@@ -36,6 +37,7 @@ unfoldable pub first_fault : (earlier later : List (List ℕ)) → Option Fault
 first_fault earlier [] = None
 first_fault earlier (l ∷ ls) = or_later (fault_behind (rows_in earlier) (said l)) (length earlier + 1) (first_fault (earlier ++ l ∷ []) ls)
 
+-- the value, unless there is a fault
 abbrev pub unless : {A : Type 0} → Option Fault → A → Result A Fault
 unless None x = Ok x
 unless (Some fault) x = Err fault

@@ -38,6 +38,7 @@ IsBounded table = All (λ r. length r.1 ≤ 32_768) table.rows
 
 -- ---- the table of rows in any order, whose names differ
 
+-- no two rows have one name
 abbrev pub NamesDiffer : List Row → Type 0
 NamesDiffer rows = (name : ℕ) → count_by (λ r. r.0 == name) rows ≤ 1
 
@@ -46,15 +47,19 @@ abbrev pub put : Row → List Row → List Row
 put row [] = row ∷ []
 put row (r ∷ rs) = if nat_lt row.0 r.0 then row ∷ r ∷ rs else r ∷ put row rs
 
+-- the rows in ascending order of name
 abbrev pub by_name : List Row → List Row
 by_name [] = []
 by_name (r ∷ rs) = put r (by_name rs)
 
+-- whether a row has at least 8 usable terms
 abbrev pub is_kept : Row → Bool
 is_kept row = nat_le 8 (length row.1)
 
+-- whether it has fewer
 abbrev pub is_skipped : Row → Bool
 is_skipped row = not (is_kept row)
 
+-- the table of rows: those that are kept, and how many are skipped
 abbrev pub table_of : List Row → Table
 table_of rows = record { rows = by_name (filter is_kept rows); skipped = count_by is_skipped rows }

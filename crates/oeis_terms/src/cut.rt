@@ -2,7 +2,10 @@
 
 ghost use Rattle.std.specs.Prelude.{◌≡◌, ◌+◌, ◌<◌, ◌∷◌, length, IfSome};
 ghost use Rattle.std.specs.Option.{option_map};
-ghost use Rattle.oeis_terms.specs.Cut.{first_cut, lines, lines_left, ends_with, without_cr, without_blanks, is_blank, trimmed};
+ghost use Rattle.text_parts.specs.Blanks.{without_return, trim_back, is_blank};
+ghost use Rattle.oeis_terms.specs.Cut.{first_cut, lines, lines_left, ends_with, trimmed};
+
+use text_parts::{trim_back, without_return};
 
 // The bytes before the first `byte`, and those after it.
 pub fn first_cut(text: &[u8], byte: u8) -> Option<(&[u8], &[u8])>
@@ -32,39 +35,11 @@ pub fn first_line(text: &[u8]) -> (&[u8], Option<&[u8]>)
 pub fn trimmed(line: &[u8]) -> &[u8]
     ensures { result.now ≡ trimmed line.now }
 {
-    without_blanks(without_cr(line))
+    trim_back(without_return(line))
 }
 
 pub fn ends_with(line: &[u8], byte: u8) -> bool
     ensures { result ≡ ends_with byte line.now }
 {
     !line.is_empty() && line[line.len() - 1] == byte
-}
-
-fn without_cr(line: &[u8]) -> &[u8]
-    ensures { result.now ≡ without_cr line.now }
-{
-    if !ends_with(line, b'\r') {
-        return line;
-    }
-    &line[..line.len().saturating_sub(1)]
-}
-
-fn is_blank(byte: u8) -> bool
-    ensures { result ≡ is_blank byte }
-{
-    byte == b' ' || byte == b'\t'
-}
-
-fn without_blanks(line: &[u8]) -> &[u8]
-    ensures { result.now ≡ without_blanks line.now }
-{
-    let mut end = line.len();
-    while end > 0 {
-        if !is_blank(line[end - 1]) {
-            return &line[..end];
-        }
-        end -= 1;
-    }
-    &line[..end]
 }

@@ -26,9 +26,8 @@ use crate::error::LineError;
 use crate::reading::{Reading, add_line, nothing_read};
 pub use error::{TermsError, TermsKind};
 use loda_io::{ReadError, Shelf, read_file};
-pub use number::magnitude;
 use std::alloc::Global;
-pub use table::TermTable;
+pub use table::{Row, TermTable};
 
 fn in_line(line: u64, error: LineError) -> TermsError
     ensures { result ≡ error_in line error }

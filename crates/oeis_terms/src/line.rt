@@ -3,39 +3,28 @@
 ghost use Rattle.std.specs.Prelude.{◌≡◌, ◌<◌, ◌≤◌, ◌^◌, length, IfOk, IfSome, OnErr, MatchResult, Ok, Err};
 ghost use Rattle.std.specs.Option.{option_map};
 ghost use Rattle.oeis_terms.specs.declared.error.LineError.TheVariants.{Memory};
-ghost use Rattle.oeis_terms.specs.Numbers.{number_of};
+ghost use Rattle.text_parts.specs.Digits.{number_of};
 ghost use Rattle.oeis_terms.specs.Line.{name_at, usable_terms, is_ended, terms_of, row_at, is_silent, said};
 ghost use Rattle.oeis_terms.specs.Reading.{Gives, kept_after};
 
 use crate::cut::{ends_with, first_cut, trimmed};
 use crate::error::{LineError, TermsKind};
-use crate::number::{magnitude, term_of};
+use crate::number::term_of;
 use checked_numbers::Num;
-
-fn six_digits(digits: &[u8]) -> Option<u32>
-    requires { length digits.now ≡ 6 }
-    ensures number { result ≡ number_of digits.now }
-    ensures small { IfSome result (λ n. n < 1_000_000) }
-{
-    let number = magnitude(digits)?;
-    Some(number as u32)
-}
+use text_parts::name_of;
 
 // An A-number at the front, and the bytes after it.
 fn name_at(line: &[u8]) -> Result<(u32, &[u8]), TermsKind>
     ensures answer { MatchResult result (λ x. name_at line.now ≡ Ok (x.0, x.1.now)) (λ kind. name_at line.now ≡ Err kind) }
     ensures small { IfOk result (λ x. (0 < x.0) × (x.0 < 1_000_000)) }
 {
-    let [b'A', rest @ ..] = line else {
-        return Err(TermsKind::BadName);
-    };
-    if rest.len() < 6 {
+    if line.len() < 7 {
         return Err(TermsKind::BadName);
     }
-    let (digits, rest) = rest.split_at(6);
-    match six_digits(digits) {
-        None | Some(0) => Err(TermsKind::BadName),
-        Some(number) => Ok((number, rest)),
+    let (text, rest) = line.split_at(7);
+    match name_of(text) {
+        None => Err(TermsKind::BadName),
+        Some(name) => Ok((name, rest)),
     }
 }
 

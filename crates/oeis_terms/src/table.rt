@@ -6,7 +6,7 @@ ghost use Rattle.std.specs.Option.{option_map};
 use checked_numbers::Num;
 use std::marker::Model;
 
-// A name and its terms.
+/// A name and its usable terms.
 #[derive(Drop)]
 pub struct Row {
     name: u32,
@@ -22,18 +22,21 @@ impl Model for Row {
 }
 
 impl Row {
+    /// The row of a name with these terms.
     pub fn of(name: u32, terms: Vec<Num>) -> Row
         ensures { result ≡ (name, terms.items) }
     {
         Row { name, terms }
     }
 
+    /// The name.
     pub fn name(&self) -> u32
         ensures { result ≡ self.now.0 }
     {
         self.name
     }
 
+    /// The terms.
     pub fn terms(&self) -> &[Num]
         ensures { result.now ≡ self.now.1 }
     {
@@ -64,7 +67,7 @@ impl TermTable {
     ghost use Rattle.std.specs.Option.{option_map};
     ghost use Rattle.oeis_terms.specs.Table.{IsRow, IsTable, IsBounded, NamesDiffer, by_name, row_of};
 
-    // The table of rows in any order, whose names differ.
+    /// The table of rows in any order, whose names differ, and how many more were skipped.
     pub fn of(rows: Vec<Row>, skipped: u64) -> TermTable
         requires rows { All IsRow rows.items }
         requires names { NamesDiffer rows.items }

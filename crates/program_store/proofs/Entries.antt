@@ -19,7 +19,8 @@ use Rattle.std.proofs.lemmas.Bool.Decides.{nat_tests}
 use Rattle.loda_syntax.specs.Programs.{instrs}
 use Rattle.loda_syntax.specs.WellFormed.{IsProgram}
 use Rattle.program_store.specs.declared.published.Published.{Published}
-use Rattle.program_store.specs.Store.{Store, published_at, IsName, IsStore}
+use Rattle.text_parts.specs.Names.{IsName}
+use Rattle.program_store.specs.Store.{Store, published_at, IsStore}
 
 module _ {X : Type 0} where
   find-is : (es : List (ℕ × X)) (q : ℕ) → find nat_cmp q es ≡ lookup (is_at (nat_cmp q)) es

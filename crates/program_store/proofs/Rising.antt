@@ -7,7 +7,8 @@ use Rattle.std.specs.FinMap.{find, is_sorted, entries, entries_sorted, get-entri
 use Rattle.std.specs.FinMap.Entries.{below_all}
 use Rattle.std.proofs.lemmas.Bool.Decides.{nat_tests}
 use Rattle.program_store.specs.declared.published.Published.{Published}
-use Rattle.program_store.specs.Store.{Store, published_at, IsName, IsStore}
+use Rattle.text_parts.specs.Names.{IsName}
+use Rattle.program_store.specs.Store.{Store, published_at, IsStore}
 use Rattle.program_store.specs.StoreText.{entry_text, store_text}
 
 abbrev Entries : Type 0

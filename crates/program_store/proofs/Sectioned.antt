@@ -11,7 +11,7 @@ use Rattle.program_store.specs.declared.errors.StoreError.TheVariants as errors
 use Rattle.program_store.specs.declared.published.Published.{Published}
 use Rattle.program_store.specs.declared.published.Proposal.{Proposal}
 use Rattle.program_store.specs.Sections.{Section}
-use Rattle.program_store.specs.Headers.{capped_header, limit}
+use Rattle.program_store.specs.Headers.{capped_header, past_counts}
 use Rattle.program_store.specs.Files.{Fault, fault, entry_fault, entry_of, proposal_of, program_read}
 use Rattle.program_store.specs.Answers.{Answers}
 
@@ -19,12 +19,12 @@ pub header_none : (h : Option (ℕ × ℕ)) → None ≡ capped_header h → h �
 header_none None e = refl
 header_none (Some x) e = absurd cc
 
-header_some : (h : Option (ℕ × ℕ)) (name checked : ℕ) → Some (name, checked) ≡ capped_header h → (count : ℕ) × (h ≡ Some (name, count)) × (checked ≡ min count limit)
+header_some : (h : Option (ℕ × ℕ)) (name checked : ℕ) → Some (name, checked) ≡ capped_header h → (count : ℕ) × (h ≡ Some (name, count)) × (checked ≡ min count past_counts)
 header_some None name checked e = absurd cc
-header_some (Some x) name checked e = let same : (name, checked) ≡ (x.0, min x.1 limit) = cc in (x.1, ap (λ n. Some (n, x.1)) (sym (ap (λ (p : ℕ × ℕ). p.0) same)), ap (λ (p : ℕ × ℕ). p.1) same)
+header_some (Some x) name checked e = let same : (name, checked) ≡ (x.0, min x.1 past_counts) = cc in (x.1, ap (λ n. Some (n, x.1)) (sym (ap (λ (p : ℕ × ℕ). p.0) same)), ap (λ (p : ℕ × ℕ). p.1) same)
 
--- a count past the limit is refused as the limit is
-fault-capped : (last name count : ℕ) → entry_fault last name (min count limit) ≡ entry_fault last name count
+-- a count past the past_counts is refused as the past_counts is
+fault-capped : (last name count : ℕ) → entry_fault last name (min count past_counts) ≡ entry_fault last name count
 fault-capped last name count = grind (arith, nat_tests)
 
 counted : (last name checked : ℕ) → entry_fault last name checked ≡ None → checked ≤ 32768

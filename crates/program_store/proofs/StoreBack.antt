@@ -12,7 +12,8 @@ use Rattle.loda_syntax.specs.Programs.{instrs}
 use Rattle.loda_syntax.specs.Canon.{canon}
 use Rattle.loda_syntax.proofs.Round.{reads_back}
 use Rattle.program_store.specs.declared.published.Published.{Published}
-use Rattle.program_store.specs.Store.{Store, published_at, put_all, IsName, IsStore}
+use Rattle.text_parts.specs.Names.{IsName}
+use Rattle.program_store.specs.Store.{Store, published_at, put_all, IsStore}
 use Rattle.program_store.specs.Sections.{Cut, is_inner, cut_from}
 use Rattle.program_store.specs.Headers.{store_header}
 use Rattle.program_store.specs.Files.{entry_fault, entry_read, entries_read, program_read, store_read}

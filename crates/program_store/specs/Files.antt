@@ -2,7 +2,7 @@
 use Rattle.std.specs.Prelude.{ℕ, ◌+◌, List, [], ◌∷◌, find, ◌==◌, ◌&&◌, not, nat_le, nat_lt, if◌then◌else◌, Option, Some, None, Result, Ok, Err, Bool, false}
 use Rattle.std.specs.FinMap as map
 use Rattle.loda_syntax.specs.Grammar.{◌>>=◌}
-use Rattle.loda_syntax.specs.Lines.{trim_front}
+use Rattle.text_parts.specs.Blanks.{trim_front}
 use Rattle.loda_syntax.specs.Programs.{Text}
 use Rattle.loda_syntax.specs.Reading.{TextFault, text_read}
 use Rattle.program_store.specs.declared.errors.StoreKind.{StoreKind}
@@ -18,6 +18,7 @@ pub record Fault : Type 0 where
   pub line : ℕ
   pub kind : StoreKind
 
+-- this fault at this line
 abbrev pub fault : {A : Type 0} → ℕ → StoreKind → Result A Fault
 fault line kind = Err (record { line = line; kind = kind })
 
@@ -28,6 +29,7 @@ unless line (Some kind) next = fault line kind
 
 -- ---- the lines before the first header
 
+-- whether bytes begin with anything but `;`
 abbrev pub is_text : List ℕ → Bool
 is_text [] = false
 is_text (b ∷ bs) = not (b == 59)
@@ -51,6 +53,7 @@ after_lines before next = no_header (find (λ (line : Line). has_text line.bytes
 abbrev pub in_file : {A : Type 0} → ℕ → TextFault → Result A Fault
 in_file header text_fault = fault (header + text_fault.line) (Syntax text_fault.kind)
 
+-- the program, or its fault in the file
 abbrev pub program_at : ℕ → Result Text TextFault → Result Text Fault
 program_at header (Ok program) = Ok program
 program_at header (Err text_fault) = in_file header text_fault
@@ -65,6 +68,7 @@ program_read section = program_at section.line (text_read section.text)
 abbrev pub entry_fault : ℕ → ℕ → ℕ → Option StoreKind
 entry_fault last name count = if name == last then Some Repeated else (if nat_lt name last then Some OutOfOrder else (if nat_le 8 count && nat_le count 32768 then None else Some BadCount))
 
+-- the entry of a section by what its header was read as
 abbrev pub entry_of : ℕ → Section → Option (ℕ × ℕ) → Result (ℕ × Published) Fault
 entry_of last section None = fault section.line BadHeader
 entry_of last section (Some header) = unless section.line (entry_fault last header.0 header.1) (program_read section >>= λ program. Ok (header.0, record { program = program; checked = header.1 }))
@@ -89,6 +93,7 @@ store_read bytes =
 
 -- ---- a candidates file
 
+-- the proposal of a section by what its header was read as
 abbrev pub proposal_of : ℕ → Section → Option ℕ → Result Proposal Fault
 proposal_of number section None = fault section.line BadHeader
 proposal_of number section (Some name) = unless section.line (if nat_lt 1000000 number then Some TooMany else None) (program_read section >>= λ program. Ok (record { name = name; program = program }))

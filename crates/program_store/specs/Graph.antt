@@ -36,6 +36,7 @@ CallsReach lib p to = (next : ℕ) × Contains (calls_of p) next × Reaches lib 
 abbrev pub OnCycle : Library → ℕ → Type 0
 OnCycle lib q = (p : Text) × (lib q ≡ Some p) × CallsReach lib p q
 
+-- no name is on a cycle of calls
 abbrev pub NoCycle : Library → Type 0
 NoCycle lib = (q : ℕ) → OnCycle lib q → ⊥
 

@@ -1,8 +1,9 @@
 -- A file cut into lines, and its lines into sections.
 use Rattle.std.specs.Prelude.{ℕ, ◌+◌, List, [], ◌∷◌, map, length, take, slice_index, ◌-◌, ◌==◌, if◌then◌else◌, Bool, true, false, not}
 use Rattle.std.specs.List.{concat}
-use Rattle.loda_syntax.specs.Lines.{without_return}
+use Rattle.text_parts.specs.Blanks.{without_return}
 
+-- the lines with one more byte in front
 abbrev pub with_byte : ℕ → List (List ℕ) → List (List ℕ)
 with_byte b [] = (b ∷ []) ∷ []
 with_byte b (line ∷ lines) = (b ∷ line) ∷ lines
@@ -41,9 +42,11 @@ pub record Cut : Type 0 where
   pub before : List Line
   pub sections : List Section
 
+-- the bytes of lines, one after the other
 abbrev pub text_of : List Line → List ℕ
 text_of lines = concat (map (λ (line : Line). line.bytes) lines)
 
+-- a header with the text of these lines
 abbrev pub section_of : Line → List Line → Section
 section_of header lines = record { line = header.number; header = header.bytes; text = text_of lines }
 
@@ -52,6 +55,7 @@ abbrev pub add_line : Bool → Line → Cut → Cut
 add_line true line cut = record { before = []; sections = section_of line cut.before ∷ cut.sections }
 add_line false line cut = record { before = line ∷ cut.before; sections = cut.sections }
 
+-- whether the bytes begin with the sign
 abbrev pub begins_with : ℕ → List ℕ → Bool
 begins_with sign [] = false
 begins_with sign (b ∷ bs) = b == sign

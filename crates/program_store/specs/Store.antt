@@ -8,16 +8,15 @@ use Rattle.std.specs.FinMap as map
 use Rattle.loda_syntax.specs.Programs.{Text, instrs}
 use Rattle.loda_syntax.specs.WellFormed.{IsProgram}
 use Rattle.loda_semantics.specs.Exec.{Library}
+use Rattle.text_parts.specs.Names.{IsName}
 use Rattle.program_store.specs.declared.published.Published.{Published}
 use Rattle.program_store.specs.declared.published.Proposal.{Proposal}
 
--- a number that names a program
-abbrev pub IsName : ℕ → Type 0
-IsName q = (1 ≤ q) × (q ≤ 999999)
-
+-- what is published, by name
 abbrev pub Store : Type 0
 Store = map.FinMap nat_cmp Published
 
+-- what is published under a name
 abbrev pub published_at : Store → ℕ → Option Published
 published_at s q = map.get s q
 
@@ -29,6 +28,15 @@ programs_of s q = option_map (λ (e : Published). e.program) (published_at s q)
 abbrev pub with_program : Library → ℕ → Text → Library
 with_program lib q p n = if n == q then Some p else lib n
 
+-- the programs of the store with the proposed one in its place
+abbrev pub after : Store → ℕ → Text → Library
+after s q p = with_program (programs_of s) q p
+
+-- something is published under the name
+abbrev pub IsPublished : Store → ℕ → Type 0
+IsPublished s q = (e : Published) × (published_at s q ≡ Some e)
+
+-- the checked count, and 0 of nothing
 abbrev pub checked_in : Option Published → ℕ
 checked_in None = 0
 checked_in (Some e) = e.checked

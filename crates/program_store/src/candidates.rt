@@ -1,7 +1,8 @@
 //! Proposals in the order of a candidates file.
 
 ghost use Rattle.std.specs.Prelude.{◌≡◌, ◌<◌, ◌≤◌, Some, [], ◌∷◌, ◌++◌, length, slice_get, OnOk, OnErr};
-ghost use Rattle.program_store.specs.Store.{IsName, IsProposal};
+ghost use Rattle.text_parts.specs.Names.{IsName};
+ghost use Rattle.program_store.specs.Store.{IsProposal};
 
 use crate::published::Proposal;
 use std::alloc::{AllocError, Global};
@@ -28,7 +29,7 @@ impl Model for Candidates {
 
 impl Candidates {
     /// No proposals.
-    pub(crate) fn empty(alloc: Global) -> Candidates
+    pub fn empty(alloc: Global) -> Candidates
         ensures { result ≡ [] }
     {
         Candidates {
@@ -36,8 +37,8 @@ impl Candidates {
         }
     }
 
-    /// Adds a proposal at the end.
-    pub(crate) fn push(&mut self, proposal: Proposal) -> Result<(), AllocError>
+    /// Adds a proposal at the end. After want of memory the list is as it was.
+    pub fn push(&mut self, proposal: Proposal) -> Result<(), AllocError>
         requires few { length self.old < 1000000 }
         requires named { IsName proposal.name }
         ensures ok { OnOk result (self.new ≡ self.old ++ proposal ∷ []) }

@@ -17,8 +17,7 @@ pub mod view;
 
 pub use candidates::Candidates;
 pub use errors::{StoreError, StoreKind};
-pub use headers::name_of;
-pub use printing::{name_text, print_store};
+pub use printing::print_store;
 pub use published::{Proposal, Published};
 pub use reading::{parse_candidates, parse_store, read_candidates, read_store};
 pub use store::Store;

@@ -1,10 +1,12 @@
 //! The lines of a file, and what counts of a line.
 
 ghost use Rattle.std.specs.Prelude.{◌≡◌, ◌+◌, ◌<◌, ◌≤◌, ◌==◌, ◌||◌, ◌∷◌, length, take, drop};
-ghost use Rattle.loda_syntax.specs.Lines.{is_blank, trim_front, without_return};
+ghost use Rattle.text_parts.specs.Blanks.{is_blank, trim_front, without_return, trim_back};
 ghost use Rattle.program_store.specs.Sections.{whole_lines, without_feed, bare};
 ghost use Rattle.program_store.specs.Files.{has_text};
-ghost use Rattle.program_store.specs.Headers.{header_content, trim_back};
+ghost use Rattle.program_store.specs.Headers.{header_content};
+
+use text_parts::{trim_back, trim_front, without_return};
 
 // How many bytes the first line has, with its LF.
 pub fn line_length(bytes: &[u8]) -> usize
@@ -21,28 +23,11 @@ pub fn line_length(bytes: &[u8]) -> usize
     bytes.len()
 }
 
-fn is_blank(byte: u8) -> bool
-    ensures { result ≡ is_blank byte }
-{
-    byte == b' ' || byte == b'\t'
-}
-
 #[tactic(auto, unfolding(crate::specs::Sections::without_feed))]
 fn without_feed(line: &[u8]) -> &[u8]
     ensures { result.now ≡ without_feed line.now }
 {
     if !line.is_empty() && line[line.len() - 1] == b'\n' {
-        &line[..line.len() - 1]
-    } else {
-        line
-    }
-}
-
-#[tactic(auto, unfolding(loda_syntax::specs::Lines::without_return))]
-fn without_return(line: &[u8]) -> &[u8]
-    ensures { result.now ≡ without_return line.now }
-{
-    if !line.is_empty() && line[line.len() - 1] == b'\r' {
         &line[..line.len() - 1]
     } else {
         line
@@ -55,38 +40,12 @@ fn bare(line: &[u8]) -> &[u8]
     without_return(without_feed(line))
 }
 
-fn trim_back(text: &[u8]) -> &[u8]
-    ensures { result.now ≡ trim_back text.now }
-{
-    let mut rest = text;
-    while let [front @ .., last] = rest {
-        if !is_blank(*last) {
-            return rest;
-        }
-        rest = front;
-    }
-    rest
-}
-
 /// What counts of a header's line: its line end and the blanks before it are dropped.
 #[tactic(auto, unfolding(crate::specs::Headers::header_content))]
 pub fn header_content(line: &[u8]) -> &[u8]
     ensures { result.now ≡ header_content line.now }
 {
     trim_back(bare(line))
-}
-
-fn trim_front(text: &[u8]) -> &[u8]
-    ensures { result.now ≡ trim_front text.now }
-{
-    let mut rest = text;
-    while let [first, tail @ ..] = rest {
-        if !is_blank(*first) {
-            return rest;
-        }
-        rest = tail;
-    }
-    rest
 }
 
 /// Whether there is more in the line than blanks and a comment.

@@ -2,7 +2,8 @@
 
 ghost use Rattle.std.specs.Prelude.{◌≡◌, ◌++◌, [], ◌∷◌, ◌+◌, ◌%◌, OnOk, OnErr};
 ghost use Rattle.loda_syntax.specs.Answers.{AddsFront};
-ghost use Rattle.program_store.specs.Headers.{name_text, store_header};
+ghost use Rattle.text_parts.specs.Names.{name_text};
+ghost use Rattle.program_store.specs.Headers.{store_header};
 ghost use Rattle.program_store.specs.StoreText.{entry_text, store_text};
 
 use crate::published::Published;
@@ -10,6 +11,7 @@ use crate::view::View;
 use itoa::Buffer;
 use loda_syntax::print;
 use std::alloc::AllocError;
+use text_parts::name_text;
 
 /// Adds the canonical text of a store: its entries in ascending order of their names, each as its header and its program's
 /// canonical text. After want of memory `out` has its old bytes and a first part of the text.
@@ -47,32 +49,4 @@ fn print_header(name: u32, count: u32, out: &mut Vec<u8>) -> Result<(), AllocErr
     out.extend_from_slice(b" ")?;
     out.extend_from_slice(digits.format(count).as_bytes())?;
     out.extend_from_slice(b"\n")
-}
-
-/// The text of a name: `A` and six digits.
-#[tactic(auto, unfolding(crate::specs::Headers::name_text))]
-pub fn name_text(name: u32) -> [u8; 7]
-    ensures { result ≡ name_text name }
-{
-    let tens = name / 10;
-    let hundreds = tens / 10;
-    let thousands = hundreds / 10;
-    let ten_thousands = thousands / 10;
-    let hundred_thousands = ten_thousands / 10;
-    [
-        b'A',
-        digit(hundred_thousands),
-        digit(ten_thousands),
-        digit(thousands),
-        digit(hundreds),
-        digit(tens),
-        digit(name),
-    ]
-}
-
-// The last digit of a number.
-fn digit(number: u32) -> u8
-    ensures { result ≡ 48 + number % 10 }
-{
-    b'0' + (number % 10) as u8
 }

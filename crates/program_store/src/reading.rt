@@ -2,7 +2,7 @@
 
 ghost use Rattle.std.specs.Prelude.{◌≡◌, ◌+◌, ◌<◌, ◌≤◌, ◌^◌, length, IfOk};
 ghost use Rattle.loda_io.specs.Shelf.{OnlyRead};
-ghost use Rattle.program_store.specs.Store.{IsName};
+ghost use Rattle.text_parts.specs.Names.{IsName};
 ghost use Rattle.program_store.specs.Files.{program_read, entry_fault, entry_read, proposal_read, store_read, candidates_read};
 ghost use Rattle.program_store.specs.Answers.{Answers, FileAnswers};
 

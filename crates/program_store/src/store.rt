@@ -2,7 +2,8 @@
 
 ghost use Rattle.std.specs.Prelude.{◌≡◌, IfOk, OnOk, IfErr, OnErr};
 ghost use Rattle.std.specs.FinMap as map;
-ghost use Rattle.program_store.specs.Store.{published_at, programs_of, IsName};
+ghost use Rattle.text_parts.specs.Names.{IsName};
+ghost use Rattle.program_store.specs.Store.{published_at, programs_of};
 
 use crate::published::Published;
 use crate::view::{Library, View};

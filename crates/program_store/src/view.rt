@@ -4,7 +4,8 @@ ghost use Rattle.std.specs.Prelude.{◌≡◌, ◌<◌, ◌≤◌, ℕ, IfSome, 
 ghost use Rattle.std.specs.Option.{option_copied};
 ghost use Rattle.loda_semantics.specs.Exec as meaning;
 ghost use Rattle.program_store.specs.Store as spec;
-ghost use Rattle.program_store.specs.Store.{published_at, programs_of, with_program, IsName, IsStore};
+ghost use Rattle.text_parts.specs.Names.{IsName};
+ghost use Rattle.program_store.specs.Store.{published_at, programs_of, with_program, IsStore};
 
 use crate::published::Published;
 use loda_syntax::Program;

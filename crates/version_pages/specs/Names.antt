@@ -1,11 +1,8 @@
--- Names, and a map of which each key is a name.
+-- A map of which each key is a name.
 use Rattle.std.specs.Prelude.{◌≡◌, ℕ, ◌<◌, ◌≤◌, None, IsSome}
 use Rattle.std.specs.Ordering.{nat_cmp}
 use Rattle.std.specs.FinMap.{FinMap, get}
-
--- a number from 1 to 999,999
-abbrev pub IsName : ℕ → Type 0
-IsName n = (1 ≤ n) × (n ≤ 999999)
+use Rattle.text_parts.specs.Names.{IsName}
 
 module _ {T : Type 0} where
   -- nothing stands at a number that is no name

@@ -4,7 +4,8 @@
 ghost use Rattle.std.specs.Prelude.{◌≡◌, ◌≤◌, IfOk, IfSome, IfNone};
 ghost use Rattle.std.specs.Option.{option_copied};
 ghost use Rattle.std.specs.FinMap as map;
-ghost use Rattle.version_pages.specs.Names.{IsName, HasNamesOnly, HasNoneAbove, IsNextName};
+ghost use Rattle.text_parts.specs.Names.{IsName};
+ghost use Rattle.version_pages.specs.Names.{HasNamesOnly, HasNoneAbove, IsNextName};
 
 mod row;
 mod table;

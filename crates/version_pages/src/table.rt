@@ -3,7 +3,8 @@
 ghost use Rattle.std.specs.Prelude.{◌≡◌, ◌≢◌, ℕ, ◌+◌, ◌/◌, ◌%◌, ◌<◌, ◌≤◌, length, IfOk, IfSome, IfNone, IsSome};
 ghost use Rattle.std.specs.Option.{option_copied};
 ghost use Rattle.std.specs.FinMap as map;
-ghost use Rattle.version_pages.specs.Names.{IsName, HasNoneAbove, IsNextName};
+ghost use Rattle.text_parts.specs.Names.{IsName};
+ghost use Rattle.version_pages.specs.Names.{HasNoneAbove, IsNextName};
 ghost use Rattle.version_pages.specs.Table.{place, on_page, at_name, map_of};
 
 use crate::row::{PLACES, Row};

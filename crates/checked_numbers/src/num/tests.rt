@@ -1,4 +1,5 @@
-// Numbers at the bounds, their order and their text.
+//! Numbers at the bounds, their order and their text.
+
 use super::*;
 use std::test::Fail;
 

@@ -1,4 +1,5 @@
-// The operations at values worked out from their definitions with integers of any size.
+//! The operations at values worked out from their definitions with integers of any size.
+
 use super::*;
 
 const M: i128 = i128::MAX;

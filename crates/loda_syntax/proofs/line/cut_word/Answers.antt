@@ -1,5 +1,5 @@
 use Rattle.std.proofs.Common.{sym, refl}
-use Rattle.loda_syntax.specs.Lines.{trim, is_blank}
+use Rattle.text_parts.specs.Blanks.{trim, is_blank}
 use Rattle.loda_syntax.proofs.Cuts.{uncut}
 use Rattle.loda_syntax.proofs.line.cut_word.Goals as goal
 

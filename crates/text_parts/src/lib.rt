@@ -1,0 +1,13 @@
+//! Parts of lines, as bytes: blanks and line ends, decimal digits, and A-numbers.
+#![tactic(auto)]
+
+mod blanks;
+mod digits;
+pub mod laws;
+mod names;
+#[cfg(test)]
+mod tests;
+
+pub use blanks::{is_blank, trim, trim_back, trim_front, without_return};
+pub use digits::{decimal_up_to, number_up_to};
+pub use names::{name_of, name_text};
