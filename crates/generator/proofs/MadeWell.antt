@@ -12,7 +12,8 @@ use Rattle.loda_syntax.specs.declared.instr.Operand.TheVariants.{Constant, Direc
 use Rattle.loda_syntax.specs.declared.instr.Verb.TheVariants.{Sub}
 use Rattle.loda_syntax.specs.WellFormed.{IsInstr, IsSource, IsBalanced, IsProgram}
 use Rattle.generator.specs.Arithmetic.{verb_at, drawn_source, drawn_arithmetic}
-use Rattle.generator.specs.Names.{IsName, AreNames}
+use Rattle.text_parts.specs.Names.{IsName}
+use Rattle.generator.specs.Names.{AreNames}
 use Rattle.generator.specs.Generating.{Turn, arithmetic_turn, loop_turn, end_turn, call_turn, turn, turns, generated}
 use Rattle.generator.proofs.Choices.{of_either}
 

@@ -13,6 +13,7 @@ use Rattle.loda_syntax.specs.declared.instr.Instr.TheVariants.{Arith}
 abbrev pub verbs : List Verb
 verbs = Mov ∷ Add ∷ Sub ∷ Mul ∷ Trn ∷ Div ∷ Mod ∷ Pow ∷ Gcd ∷ Bin ∷ Equ ∷ Max ∷ []
 
+-- the verb with this number
 abbrev pub verb_at : ℕ → Verb
 verb_at k = slice_index_or verbs k Mov
 

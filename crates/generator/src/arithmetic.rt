@@ -1,3 +1,5 @@
+//! Arithmetic instructions that are drawn.
+
 ghost use Rattle.std.specs.Prelude.{◌≡◌, ◌<◌};
 ghost use Rattle.generator.specs.Arithmetic.{verb_at, drawn_source, drawn_arithmetic};
 

@@ -1,3 +1,5 @@
+//! A program that is being made, turn by turn.
+
 ghost use Rattle.std.specs.Prelude.{◌≡◌, ◌+◌, ◌++◌, ◌≤◌, ◌<◌, List, [], ◌∷◌, replicate, vec_len, vec_capacity};
 ghost use Rattle.loda_syntax.specs.declared.instr.Instr.TheVariants.{LoopEnd};
 ghost use Rattle.generator.specs.Names.{AreNames};

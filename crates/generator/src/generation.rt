@@ -1,3 +1,5 @@
+//! Programs of random words.
+
 ghost use Rattle.std.specs.Prelude.{◌≡◌, IfOk, OnOk, OnErr};
 ghost use Rattle.loda_syntax.specs.Programs.{instrs};
 ghost use Rattle.loda_syntax.specs.WellFormed.{IsProgram};

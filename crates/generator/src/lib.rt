@@ -5,6 +5,7 @@
 mod arithmetic;
 mod draft;
 mod generation;
+pub mod laws;
 #[cfg(test)]
 mod tests;
 

@@ -1,3 +1,5 @@
+//! Each line of the table of draws, by words that reach it.
+
 use super::*;
 use loda_syntax::{Instr, Operand, Verb};
 use std::alloc::Global;

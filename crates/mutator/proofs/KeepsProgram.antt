@@ -10,7 +10,8 @@ use Rattle.loda_syntax.specs.declared.instr.Operand.TheVariants.{Constant, Direc
 use Rattle.loda_syntax.specs.declared.instr.Instr.{Instr}
 use Rattle.loda_syntax.specs.declared.instr.Instr.TheVariants.{Arith, Clear, LoopStart, LoopEnd, Call}
 use Rattle.loda_syntax.specs.WellFormed.{IsInstr, IsProgram}
-use Rattle.generator.specs.Names.{IsName, AreNames}
+use Rattle.text_parts.specs.Names.{IsName}
+use Rattle.generator.specs.Names.{AreNames}
 use Rattle.generator.specs.Arithmetic.{verb_at}
 use Rattle.generator.proofs.Choices.{of_either}
 use Rattle.generator.proofs.MadeWell.{IsInstr-drawn_arithmetic}

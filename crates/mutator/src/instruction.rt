@@ -1,4 +1,5 @@
-// Changes of one instruction.
+//! Changes of one instruction.
+
 ghost use Rattle.std.specs.Prelude.{◌≡◌};
 ghost use Rattle.generator.specs.Names.{AreNames};
 ghost use Rattle.mutator.specs.Mutating as spec;

@@ -3,6 +3,7 @@
 #![tactic(auto)]
 
 mod instruction;
+pub mod laws;
 mod list;
 mod mutation;
 #[cfg(test)]

@@ -1,4 +1,5 @@
-// Changes of a list of instructions.
+//! Changes of a list of instructions.
+
 ghost use Rattle.std.specs.Prelude.{◌≡◌, ◌+◌, ◌≤◌, ◌<◌, vec_len, vec_capacity};
 ghost use Rattle.generator.specs.Names.{AreNames};
 ghost use Rattle.mutator.specs.Mutating.{changed_at, lengthened, changed};

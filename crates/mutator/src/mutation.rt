@@ -1,3 +1,5 @@
+//! Programs made by changes of a program.
+
 ghost use Rattle.std.specs.Prelude.{◌≡◌, ◌+◌, ◌≤◌, length, vec_len, vec_capacity, IfOk, OnOk, OnErr};
 ghost use Rattle.loda_syntax.specs.Programs.{instrs};
 ghost use Rattle.loda_syntax.specs.WellFormed.{IsProgram};

@@ -1,3 +1,5 @@
+//! Each line of the table of changes, by words that reach it.
+
 use super::*;
 use loda_syntax::{Instr, Operand, Program, Verb};
 use std::alloc::Global;

@@ -1,5 +1,5 @@
 -- The words that a source will give, and numbers that are drawn from them.
-use Rattle.std.specs.Prelude.{ℕ, zero, suc, ◌≤◌, ◌%◌, ◌≡◌}
+use Rattle.std.specs.Prelude.{ℕ, zero, suc, ◌≤◌, ◌<◌, ◌%◌, ◌≡◌}
 use Rattle.rand_core.specs.Stream.{Stream, next_u32}
 
 -- what a source still gives after its next k words
@@ -24,3 +24,7 @@ pub record IsDrawnWithin (most : ℕ) (old new : Stream) : Type 0 where
   pub taken : ℕ
   pub few : taken ≤ most
   pub left : new ≡ advanced taken old
+
+-- two sources give the same first `count` words
+pub record SameWords (count : ℕ) (one other : Stream) : Type 0 where
+  pub each : (k : ℕ) → k < count → word k one ≡ word k other

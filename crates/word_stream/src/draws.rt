@@ -1,7 +1,9 @@
+//! Numbers drawn from a source of random words, and the source of a job.
+
 ghost use Rattle.std.specs.Prelude.{◌≡◌, ℕ, ◌<◌, ◌^◌};
 ghost use Rattle.rand_chacha.specs.ChaCha.{word_at, key_of};
 ghost use Rattle.word_stream.specs.Words.{below, rest, word};
-ghost use Rattle.word_stream.specs.Jobs.{job_source, seed_bytes};
+ghost use Rattle.word_stream.specs.Jobs.{job_source, job_words, seed_bytes};
 
 use rand_chacha::ChaCha8Rng;
 use rand_core::{Rng, SeedableRng};
@@ -52,6 +54,7 @@ fn key_bytes(seed: u64) -> [u8; 32]
 /// from its first word on.
 pub fn job_draws(seed: u64, job: u64) -> Draws<ChaCha8Rng>
     ensures source { result ≡ job_source seed job }
+    ensures stream { ⟦<ChaCha8Rng as Rng>⟧.stream result ≡ job_words seed job }
     ensures words { (k : ℕ) → k < 2 ^ 68
         → word k (⟦<ChaCha8Rng as Rng>⟧.stream result) ≡ word_at 4 (key_of (seed_bytes seed)) job k }
 {

@@ -1,3 +1,5 @@
+//! A source over a given list of words.
+
 ghost use Rattle.std.specs.Prelude.{◌≡◌, ◌≤◌, List, ℕ, length, drop, slice_index};
 ghost use Rattle.word_stream.specs.Listed.{next_listed, listed};
 ghost use Rattle.word_stream.specs.Words.{word};

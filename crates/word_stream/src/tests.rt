@@ -1,3 +1,5 @@
+//! Words of a list and of a job, beside those of the plain generator.
+
 use super::*;
 use rand_chacha::ChaCha8Rng;
 use rand_core::{Rng, SeedableRng};
