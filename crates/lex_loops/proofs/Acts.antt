@@ -3,7 +3,8 @@ use Rattle.std.proofs.Common.{ℕ, suc, ◌+◌, ◌-◌, ◌<◌, ◌≤◌, �
 use Rattle.std.specs.Prelude.{if◌then◌else◌, ◌==◌, not, max, IsTrue}
 use Rattle.std.specs.declared.option.Option.{Option}
 use Rattle.std.specs.declared.option.Option.TheVariants.{Some, None}
-use Rattle.std.proofs.lemmas.List.{drop_all, length-take-le, take-append-drop, length-append, length-reverse, reverse-append, get_or-take}
+use Rattle.std.proofs.lemmas.List.{drop_all, length-take-le, take-append-drop, length-append, length-reverse, reverse-append, reverse-reverse, get_or-take}
+use Rattle.std.proofs.lemmas.Grind.{reverse_onto}
 use Rattle.loda_syntax.specs.declared.instr.Instr.{Instr}
 use Rattle.loda_syntax.specs.declared.instr.Instr.TheVariants.{Arith, Clear, LoopStart, LoopEnd, Call}
 use Rattle.loda_syntax.specs.declared.instr.Verb.{Verb}
@@ -19,9 +20,9 @@ use Rattle.lex_loops.specs.declared.marks.Mark.{Mark}
 use Rattle.lex_loops.specs.declared.progress.Progress.{Progress}
 use Rattle.lex_loops.specs.declared.stop.Stop.{Stop}
 use Rattle.lex_loops.specs.declared.stop.Stop.TheVariants as stop
-use Rattle.lex_loops.specs.Memories.{memory_of, before, IsWithin, Replaces, ending_of}
+use Rattle.lex_loops.specs.Memories.{memory_of, before, IsWithin, Shortens, Replaces, ending_of}
 use Rattle.lex_loops.specs.State.{open_loop, open_loops, run_from, answered_by, cost_of}
-use Rattle.lex_loops.specs.Steps.{memory_in, loops_in, run_in, IsMark, AreMarks, IsUnderWay, HasRoom, Does, StepsTo, KeepsOn, IsAt, Acts, Takes, marked_anew}
+use Rattle.lex_loops.specs.Steps.{memory_in, loops_in, run_in, IsMark, AreMarks, IsUnderWay, HasRoom, Does, StepsTo, KeepsOn, IsAt, Acts, Takes, marked_anew, Serves, HasLogged}
 use Rattle.lex_loops.proofs.Memories.{before-replaces}
 use Rattle.lex_loops.proofs.Runs.{IsSingle, trees-single, goes-on, fails, is-spent, calls, charge-is, charge-spent, at_start, at_end}
 
@@ -255,6 +256,16 @@ pub mark-in-range : (list : List Instr) (old : Progress) (mark : Mark) (outer : 
     → (1 ≤ mark.len) × (mark.start + mark.len ≤ 4096) × (mark.logged ≤ length old.cells.log.items)
 mark-in-range list old mark outer marks here under = let m = (inside list old mark outer marks here under).is in (m.some, m.region, m.logged)
 
+-- and of the marks outside
+pub outside-logged : (list : List Instr) (old : Progress) (mark : Mark) (outer : List Mark) → old.marks.items ≡ outer ++ mark ∷ [] → IsAt list old.at LoopEnd → IsUnderWay list old → HasLogged outer old.cells.log.items
+outside-logged list old mark outer marks here under = λ os o is.
+    let i = inside list old mark outer marks here under in
+    let turned : reverse outer ≡ o ∷ reverse os = ap reverse is ∙ reverse-append os (o ∷ []) in
+    let ones : AreMarks list (rest_of (trees (drop (suc old.at) list))) mark.logged (o ∷ reverse os) = subst (AreMarks list (rest_of (trees (drop (suc old.at) list))) mark.logged) turned i.outside in
+    let a = ones.0.logged in
+    let b = i.is.logged in
+    omega (arith, a, b)
+
 -- at the end of a loop there is one
 pub some-open : (list : List Instr) (old : Progress) → old.marks.items ≡ [] → IsAt list old.at LoopEnd → IsUnderWay list old → ⊥
 some-open list old none_open here under =
@@ -277,40 +288,40 @@ pub acts-close-spent : (old new : Progress) (mark : Mark) (outer : List Mark) (n
 acts-close-spent old new mark outer n marks lt = λ list here under.
     ((λ callee. at_end_in list old mark outer n (inside list old mark outer marks here under) here callee ∙ charge-spent mark.len n (ended callee list old mark outer) lt), tt)
 
--- the loops outside stay what they are where the log is emptied outside of every other loop
-outside-again : (outer : List Mark) (count : ℕ) (log log' : List Written) (m : Memory) → count ≡ length outer → log' ≡ (if count == 0 then [] else log)
-    → open_loops log' m (reverse outer) ≡ open_loops log m (reverse outer)
-outside-again [] count log log' m size is = refl
-outside-again (x ∷ xs) count log log' m size is = ap (λ l. open_loops l m (reverse (x ∷ xs))) (is ∙ by_test (count == 0) refl)
-  where
-    by_test : (t : Bool) → (count == 0) ≡ t → ◌≡◌ {A = List Written} (if t then [] else log) log
-    by_test true e = absurd (let h : count ≡ 0 = grind arith in omega arith)
-    by_test false e = refl
+-- the loops outside stay what they are in a log that serves them
+loops-shortened : (list : List Instr) (after : List Tree) (len : ℕ) (marks : List Mark) (log log' : List Written) (m : Memory) → AreMarks list after len marks → Shortens len log log' → open_loops log' m marks ≡ open_loops log m marks
+loops-shortened list after len [] log log' m h s = refl
+loops-shortened list after len (mark ∷ marks) log log' m h s =
+    let at : Shortens mark.logged log log' = record {
+      long = (let a = h.0.logged in let b = s.long in omega (arith, a, b));
+      same = λ k m le. s.same k m (let a = h.0.logged in omega (arith, a, le));
+    } in
+    ap (λ (z : Memory). record { body = mark.body; start = mark.start; len = mark.len; memory = z } ∷ open_loops log' m marks) (s.same mark.logged m h.0.logged)
+    ∙ ap (λ os. open_loop log m mark ∷ os) (loops-shortened list (rest_of after) mark.logged marks log log' m h.1 at)
+
+-- the last mark is the first of the marks turned round
+last-first : (outer : List Mark) (mark : Mark) (marks : List Mark) → reverse outer ≡ mark ∷ marks → outer ≡ reverse marks ++ mark ∷ []
+last-first outer mark marks e = sym (reverse-reverse outer) ∙ ap (λ (ms : List Mark). reverse ms) e ∙ reverse_onto marks mark []
+
+outside-again : (list : List Instr) (after : List Tree) (len : ℕ) (outer marks : List Mark) (log log' : List Written) (m : Memory) → reverse outer ≡ marks → AreMarks list after len marks → Serves outer log log'
+    → open_loops log' m marks ≡ open_loops log m marks
+outside-again list after len outer [] log log' m is h s = refl
+outside-again list after len outer (mark ∷ marks) log log' m is h s =
+    loops-shortened list after mark.logged (mark ∷ marks) log log' m
+    (record { follows = h.0.follows; balanced = h.0.balanced; logged = omega arith; some = h.0.some; region = h.0.region }, h.1) (s (reverse marks) mark (last-first outer mark marks is))
 
 -- the marks outside stay of use
-marks-again : (list : List Instr) (after : List Tree) (outer : List Mark) (count k : ℕ) (log log' : List Written) → count ≡ length outer → log' ≡ (if count == 0 then [] else log) → k ≤ length log
-    → AreMarks list after k (reverse outer) → AreMarks list after (length log') (reverse outer)
-marks-again list after [] count k log log' size is le h = tt
-marks-again list after (x ∷ xs) count k log log' size is le h =
-    marks-more list after k (length log') (reverse (x ∷ xs)) (λ _. let e : length log' ≡ length log = ap length (is ∙ by_test (count == 0) refl) in omega (arith, e)) h
-  where
-    by_test : (t : Bool) → (count == 0) ≡ t → ◌≡◌ {A = List Written} (if t then [] else log) log
-    by_test true e = absurd (let h : count ≡ 0 = grind arith in omega arith)
-    by_test false e = refl
+marks-again : (list : List Instr) (after : List Tree) (outer marks : List Mark) (k : ℕ) (log log' : List Written) → reverse outer ≡ marks → Serves outer log log' → AreMarks list after k marks → AreMarks list after (length log') marks
+marks-again list after outer [] k log log' is s h = tt
+marks-again list after outer (mark ∷ marks) k log log' is s h =
+    (record { follows = h.0.follows; balanced = h.0.balanced; logged = (s (reverse marks) mark (last-first outer mark marks is)).long; some = h.0.some; region = h.0.region }, h.1)
 
-within-again : (n count : ℕ) (log log' : List Written) → log' ≡ (if count == 0 then [] else log) → IsWithin n log → IsWithin n log'
-within-again n count log log' is h = subst (IsWithin n) (sym is) (by_test (count == 0))
-  where
-    by_test : (t : Bool) → IsWithin n (if t then [] else log)
-    by_test true = λ k d lt. absurd (omega arith)
-    by_test false = h
-
-pub acts-again : (old new : Progress) (mark : Mark) (outer : List Mark) (count n left : ℕ) → old.marks.items ≡ outer ++ mark ∷ [] → count ≡ length outer → mark.len ≤ n → left ≡ n - mark.len
+pub acts-again : (old new : Progress) (mark : Mark) (outer : List Mark) (n left : ℕ) → old.marks.items ≡ outer ++ mark ∷ [] → mark.len ≤ n → left ≡ n - mark.len
     → is_less mark.len mark.start (memory_in old) (before (drop mark.logged old.cells.log.items) (memory_in old)) ≡ true
-    → new.at ≡ mark.body → new.cells.values.items ≡ old.cells.values.items → new.cells.log.items ≡ (if count == 0 then [] else old.cells.log.items)
+    → new.at ≡ mark.body → new.cells.values.items ≡ old.cells.values.items → Serves outer old.cells.log.items new.cells.log.items → IsWithin (length new.cells.values.items) new.cells.log.items
     → new.marks.items ≡ outer ++ marked_anew mark (length new.cells.log.items) ∷ []
     → Acts LoopEnd old n None left new
-acts-again old new mark outer count n left marks size le sum less at values log remarked = λ list here under.
+acts-again old new mark outer n left marks le sum less at values log within remarked = λ list here under.
     let i = inside list old mark outer marks here under in
     let anew : Mark = marked_anew mark (length new.cells.log.items) in
     let m = memory_in old in
@@ -320,7 +331,7 @@ acts-again old new mark outer count n left marks size le sum less at values log 
     ap (open_loops new.cells.log.items (memory_in new)) turned
     ∙ ap (λ vs. open_loops new.cells.log.items (memory_of vs) (anew ∷ reverse outer)) values
     ∙ ap (λ ws. record { body = mark.body; start = mark.start; len = mark.len; memory = before ws m } ∷ open_loops new.cells.log.items m (reverse outer)) (drop_all (length new.cells.log.items) new.cells.log.items (omega arith))
-    ∙ ap (λ z. record { body = mark.body; start = mark.start; len = mark.len; memory = m } ∷ z) (outside-again outer count old.cells.log.items new.cells.log.items m size log) in (
+    ∙ ap (λ z. record { body = mark.body; start = mark.start; len = mark.len; memory = m } ∷ z) (outside-again list (rest_of (trees (drop (suc old.at) list))) mark.logged outer (reverse outer) old.cells.log.items new.cells.log.items m refl i.outside log) in (
       (λ callee.
           at_end_in list old mark outer n i here callee
           ∙ charge-is mark.len n (ended callee list old mark outer) le
@@ -338,9 +349,9 @@ acts-again old new mark outer count n left marks size le sum less at values log 
             (subst (AreMarks list (rest_of (trees (drop mark.body list))) (length new.cells.log.items)) (sym turned) (
               record { follows = refl; balanced = i.is.balanced; logged = omega arith; some = i.is.some; region = i.is.region },
               subst (λ ts. AreMarks list (rest_of ts) (length new.cells.log.items) (reverse outer)) (sym i.follows)
-                  (marks-again list (rest_of (trees (drop (suc old.at) list))) outer count mark.logged old.cells.log.items new.cells.log.items size log i.is.logged i.outside),
+                  (marks-again list (rest_of (trees (drop (suc old.at) list))) outer (reverse outer) mark.logged old.cells.log.items new.cells.log.items refl log i.outside),
             ));
-        within = subst (λ vs. IsWithin (length vs) new.cells.log.items) (sym values) (within-again (length old.cells.values.items) count old.cells.log.items new.cells.log.items log under.within);
+        within = within;
       },
     )
 

@@ -1,5 +1,5 @@
 -- A run that goes on, step by step, to its stop.
-use Rattle.std.proofs.Common.{ℕ, suc, ◌+◌, ◌<◌, ◌≤◌, ◌≡◌, sym, ap, subst, ◌∙◌, ℤ, List, [], ◌∷◌, drop, length, get_or, reverse}
+use Rattle.std.proofs.Common.{ℕ, suc, ◌+◌, ◌<◌, ◌≤◌, ◌≡◌, sym, ap, subst, ◌∙◌, arith, ℤ, List, [], ◌∷◌, drop, length, get_or, reverse}
 use Rattle.std.specs.Prelude.{IfOk, OnErr}
 use Rattle.std.specs.declared.result.Result.{Result}
 use Rattle.std.specs.declared.result.Result.TheVariants.{Ok, Err}
@@ -22,31 +22,36 @@ pub if_ok : {T E : Type 0} {P Q : T → Type 0} (r : Result T E) → ((t : T) �
 if_ok (Ok t) f h = f t h
 if_ok (Err e) f h = tt
 
-pub on_err : {T E : Type 0} {P Q : Type 0} (r : Result T E) → (P → Q) → OnErr r P → OnErr r Q
-on_err (Ok t) f h = tt
-on_err (Err e) f h = f h
+pub on_err_both : {T E : Type 0} {P Q R : Type 0} (r : Result T E) → (P → Q → R) → OnErr r P → OnErr r Q → OnErr r R
+on_err_both (Ok t) f p q = tt
+on_err_both (Err e) f p q = f p q
 
 -- the instruction that was read
 pub reads : (list : List Instr) (at : ℕ) (i d : Instr) → at < length list → get_or list at d ≡ i → IsAt list at i
 reads list at i d lt is = drop-cons list at d lt ∙ ap (λ z. z ∷ drop (suc at) list) is
 
-pub charged-at : (list : List Instr) (i : Instr) (old : Progress) (n left : ℕ) → IsAt list old.at i → left + cost_of i ≡ n → IsCharged list (λ callee. run_in callee list old n) left
-charged-at list i old n left here sum = record {
+pub charged-at : (list : List Instr) (i : Instr) (old : Progress) (n left next : ℕ) → IsAt list old.at i → 1 ≤ cost_of i → next ≡ old.at + 1 → left + cost_of i ≡ n
+    → IsCharged list (λ callee. run_in callee list old n) left next
+charged-at list i old n left next here costs past sum = record {
   at = old.at;
   here = i;
   loops = loops_in old;
   memory = memory_in old;
+  past = omega (arith, past);
   stands = here;
+  costs = costs;
   rest = λ callee. ap (run_in callee list old) (sym sum);
 }
 
-pub charged-after : (list : List Instr) (run1 run2 : Callee → Ending) (left : ℕ) → ((callee : Callee) → run1 callee ≡ run2 callee) → IsCharged list run2 left → IsCharged list run1 left
-charged-after list run1 run2 left same c = record {
+pub charged-after : (list : List Instr) (run1 run2 : Callee → Ending) (left next : ℕ) → ((callee : Callee) → run1 callee ≡ run2 callee) → IsCharged list run2 left next → IsCharged list run1 left next
+charged-after list run1 run2 left next same c = record {
   at = c.at;
   here = c.here;
   loops = c.loops;
   memory = c.memory;
+  past = c.past;
   stands = c.stands;
+  costs = c.costs;
   rest = λ callee. same callee ∙ c.rest callee;
 }
 

@@ -7,6 +7,7 @@ use Rattle.lex_loops.specs.declared.stop.Phase.TheVariants.{Ready, Waiting, Ende
 use Rattle.lex_loops.specs.State.{State}
 use Rattle.lex_loops.specs.Steps.{IsUnderWay, HasRoom}
 
+-- where a machine stands, by its parts
 abbrev pub state_of : Text → Progress → Phase → State
 state_of p run phase = record {
   program = p;
@@ -24,6 +25,7 @@ IsRunning p run Ready = IsUnderWay (instrs p) run
 IsRunning p run Waiting = IsUnderWay (instrs p) run × HasRoom run
 IsRunning p run Ended = Unit {0}
 
+-- it keeps a cell at least, and is on its way where it is not ended
 pub record IsSound (p : Text) (run : Progress) (phase : Phase) : Type 0 where
   pub cells : 0 < length run.cells.values.items
   pub running : IsRunning p run phase

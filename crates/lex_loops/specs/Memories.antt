@@ -1,5 +1,5 @@
 -- The memory that a machine's cells and its undo log stand for.
-use Rattle.std.specs.Prelude.{ℕ, ◌<◌, ◌≡◌, ℤ, pos, List, [], ◌∷◌, ◌++◌, get_or, All}
+use Rattle.std.specs.Prelude.{ℕ, ◌<◌, ◌≤◌, ◌≡◌, ℤ, pos, List, [], ◌∷◌, ◌++◌, get_or, drop, length, All}
 use Rattle.std.specs.declared.option.Option.{Option}
 use Rattle.std.specs.declared.option.Option.TheVariants.{Some, None}
 use Rattle.loda_semantics.specs.declared.kinds.FaultKind.{FaultKind}
@@ -23,6 +23,11 @@ written a v = record { address = a; value = v }
 -- each write of a log was to one of the first n cells
 abbrev pub IsWithin : ℕ → List Written → Type 0
 IsWithin n log = All (λ w. w.address < n) log
+
+-- Undoing the writes of the new log down to this length, or a lesser one, gives what undoing those of the old one gives.
+pub record Shortens (len : ℕ) (old new : List Written) : Type 0 where
+  pub long : len ≤ length new
+  pub same : (k : ℕ) (m : Memory) → k ≤ len → before (drop k new) m ≡ before (drop k old) m
 
 -- The log has grown by writes, and undoing them gives the old memory back.
 pub record Replaces (old_log : List Written) (old : Memory) (new_log : List Written) (new : Memory) : Type 0 where

@@ -1,5 +1,5 @@
 -- Where a run stands, and what its rest means.
-use Rattle.std.specs.Prelude.{ℕ, suc, ◌+◌, ◌-◌, ◌≡◌, ℤ, max, if◌then◌else◌, List, [], ◌∷◌, drop}
+use Rattle.std.specs.Prelude.{ℕ, suc, ◌+◌, ◌-◌, ◌≤◌, ◌≡◌, ℤ, max, if◌then◌else◌, List, [], ◌∷◌, drop}
 use Rattle.loda_syntax.specs.Programs.{Text, instrs}
 use Rattle.loda_syntax.specs.declared.instr.Instr.{Instr}
 use Rattle.loda_syntax.specs.declared.instr.Instr.TheVariants.{Arith, Clear, LoopStart, LoopEnd}
@@ -94,7 +94,8 @@ Advances old n stop left new = StopsAs (λ callee. run_on callee old n) stop lef
 abbrev pub TakesAnswer : State → ℤ → State → Type 0
 TakesAnswer old v new = (callee : Callee) (n : ℕ) → run_on callee new n ≡ run_answered callee old v n
 
--- the steps that an instruction is charged before it acts; the end of a loop is charged the loop's region
+-- the steps that an instruction is charged before it acts; the end of a loop, which is charged its loop's region and takes no
+-- memory, has none here
 abbrev pub cost_of : Instr → ℕ
 cost_of (Arith v t s) = 1
 cost_of (Clear c k) = max 1 k
@@ -102,14 +103,16 @@ cost_of (LoopStart c k) = 1
 cost_of LoopEnd = 0
 cost_of (instr.Call t q) = 1
 
--- Of n steps `left` are left where an instruction of the list was charged and did not act: whoever answers the calls, the
--- rest of the run is that from this instruction on with its cost besides.
-pub record IsCharged (list : List Instr) (run : Callee → Ending) (left : ℕ) : Type 0 where
+-- Where `left` steps are left and the next place is `next`, the instruction before that place was charged and did not act:
+-- whoever answers the calls, the run is that from this instruction on with its cost, of a step or more, besides.
+pub record IsCharged (list : List Instr) (run : Callee → Ending) (left next : ℕ) : Type 0 where
   pub at : ℕ
   pub here : Instr
   pub loops : List OpenLoop
   pub memory : Memory
+  pub past : next ≡ suc at
   pub stands : drop at list ≡ here ∷ drop (suc at) list
+  pub costs : 1 ≤ cost_of here
   pub rest : (callee : Callee) → run callee ≡ run_from callee list at loops memory (left + cost_of here)
 
 -- what may be asked of a machine after a stop

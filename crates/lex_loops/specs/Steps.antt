@@ -1,5 +1,5 @@
 -- How far a run has come, and what one instruction does to it.
-use Rattle.std.specs.Prelude.{ℕ, suc, ◌+◌, ◌<◌, ◌≤◌, ◌≡◌, ◌≢◌, ℤ, List, [], ◌∷◌, reverse, drop, length, vec_len, vec_capacity}
+use Rattle.std.specs.Prelude.{ℕ, suc, ◌+◌, ◌<◌, ◌≤◌, ◌≡◌, ◌≢◌, ℤ, List, [], ◌∷◌, ◌++◌, reverse, drop, length, vec_len, vec_capacity}
 use Rattle.std.specs.declared.option.Option.{Option}
 use Rattle.std.specs.declared.option.Option.TheVariants.{Some, None}
 use Rattle.loda_syntax.specs.declared.instr.Instr.{Instr}
@@ -13,7 +13,8 @@ use Rattle.lex_loops.specs.declared.marks.Mark.{Mark}
 use Rattle.lex_loops.specs.declared.progress.Progress.{Progress}
 use Rattle.lex_loops.specs.declared.stop.Stop.{Stop}
 use Rattle.lex_loops.specs.declared.stop.Stop.TheVariants as stop
-use Rattle.lex_loops.specs.Memories.{memory_of, IsWithin}
+use Rattle.lex_loops.specs.declared.cells.Written.{Written}
+use Rattle.lex_loops.specs.Memories.{memory_of, IsWithin, Shortens}
 use Rattle.lex_loops.specs.State.{OpenLoop, open_loops, run_from, StopsAs}
 
 -- the memory of a run
@@ -99,6 +100,14 @@ pub record IsAtEnd (run : Progress) : Type 0 where
 -- the mark as the log is this long
 abbrev pub marked_anew : Mark → ℕ → Mark
 marked_anew mark n = record mark { logged = n }
+
+-- The new log serves the open loops of these marks as the old one does.
+abbrev pub Serves : List Mark → List Written → List Written → Type 0
+Serves marks old new = (outer : List Mark) (last : Mark) → marks ≡ outer ++ last ∷ [] → Shortens last.logged old new
+
+-- each mark's place in the log is not past the log's end
+abbrev pub HasLogged : List Mark → List Written → Type 0
+HasLogged marks log = (outer : List Mark) (last : Mark) → marks ≡ outer ++ last ∷ [] → last.logged ≤ length log
 
 -- No program is missed by an instruction of its own list: the fault Missing is a callee's alone.
 abbrev pub IsOwn : Option Stop → Type 0

@@ -1,14 +1,17 @@
 // The cells, and what writes replaced.
-ghost use Rattle.std.specs.Prelude.{◌≡◌, ◌≤◌, ◌<◌, int_lt, ◌+◌, ◌++◌, ◌∷◌, [], ℤ, pos, ℕ, Ok, Some, vec_len, vec_capacity, IfOk, OnOk, OnErr, IsTrue, ◌-◌, if◌then◌else◌, length, take, drop};
+ghost use Rattle.std.specs.Prelude.{◌≡◌, ◌≤◌, ◌<◌, int_lt, ◌+◌, ◌++◌, ◌∷◌, [], ℤ, pos, ℕ, Ok, Some, vec_len, vec_capacity, IfOk, OnOk, OnErr, IsTrue, ◌-◌, if◌then◌else◌, length, take, drop, replicate, false};
 ghost use Rattle.loda_semantics.specs.Memory.{set_cell, clear_cells, address as address_of, source_value, cell_at, is_less};
 ghost use Rattle.loda_syntax.specs.WellFormed.{IsTarget, IsSource};
 ghost use Rattle.loda_semantics.specs.Exec.{arithmetic};
-ghost use Rattle.lex_loops.specs.Memories.{memory_of, before, written, IsWithin, Replaces, ending_of};
+ghost use Rattle.lex_loops.specs.Memories.{memory_of, before, written, IsWithin, Shortens, Replaces, ending_of};
 
 use checked_numbers::{Num, apply};
 use loda_semantics::{FaultKind, op_of};
 use loda_syntax::{Operand, Verb};
-use std::alloc::AllocError;
+use std::alloc::{AllocError, Global};
+
+// A log of one iteration with more writes than these is long.
+const LONG: usize = 8192;
 
 /// A write: its cell, and what the cell held before.
 #[derive(Clone, Copy, Debug, PartialEq, Eq)]
@@ -41,6 +44,14 @@ fn is_below(a: Num, b: Num) -> bool
     ensures { result ≡ int_lt a b }
 {
     a.get() < b.get()
+}
+
+// As many cells, none of which is seen.
+fn unseen(alloc: Global, len: usize) -> Result<Vec<bool>, AllocError>
+    ensures { IfOk result (λ seen. seen.items ≡ replicate len false) }
+{
+    let seen = vec![in alloc; false; len]?;
+    Ok(seen)
 }
 
 // The cell whose address this is.
@@ -129,6 +140,47 @@ impl Cells {
                 self.put(last.address, last.value);
             }
         }
+    }
+
+    /// Makes a log that is long from this length on shorter, for undoing down to that length or a lesser one.
+    pub fn shorten(&mut self, from: usize)
+        requires from { from ≤ length self.old.log.items }
+        requires within { IsWithin (length self.old.values.items) self.old.log.items }
+        ensures log { Shortens from self.old.log.items self.new.log.items }
+        ensures values { self.new.values.items ≡ self.old.values.items }
+        ensures within { IsWithin (length self.new.values.items) self.new.log.items }
+    {
+        if self.log.len() - from > LONG {
+            self.forget(from);
+        }
+    }
+
+    // Leaves out of the log, from this length on, each write of a cell that has an earlier one there: undoing puts back what
+    // the cell held before the earlier one. Where memory is wanted for this, the log stays.
+    #[inline(never)]
+    fn forget(&mut self, from: usize)
+        requires from { from ≤ length self.old.log.items }
+        requires within { IsWithin (length self.old.values.items) self.old.log.items }
+        ensures log { Shortens from self.old.log.items self.new.log.items }
+        ensures values { self.new.values.items ≡ self.old.values.items }
+        ensures within { IsWithin (length self.new.values.items) self.new.log.items }
+    {
+        let alloc = *self.values.allocator();
+        let Ok(mut seen) = unseen(alloc, self.values.len()) else {
+            return;
+        };
+        let mut kept = from;
+        for place in from..self.log.len() {
+            let write = self.log[place];
+            let cell = usize::from(write.address);
+            if seen[cell] {
+                continue;
+            }
+            seen[cell] = true;
+            self.log[kept] = write;
+            kept += 1;
+        }
+        self.log.truncate(kept);
     }
 
     /// What a cell held before the writes since the log was this long.

@@ -70,7 +70,8 @@ impl Machine {
     /// Runs the program up to its end, its next call, a fault, or the instruction whose cost is greater than the budget.
     ///
     /// Each cost is taken from the budget before its instruction acts. At a call the step of the call itself is charged,
-    /// and the room for its answer is taken. After want of memory the run is over, with the costs so far charged.
+    /// and the room for its answer is taken. After want of memory the run is over, at an instruction of it that was charged
+    /// and did not act: the machine stands just past that one, and the costs up to it are charged.
     pub fn advance(&mut self, program: &Program, budget: &mut u64) -> Result<Stop, AllocError>
         requires ready { self.old.phase ≡ Phase.Ready }
         requires program { program.now ≡ self.old.program }
@@ -78,7 +79,7 @@ impl Machine {
         ensures phase { IfOk result (λ stop. self.new.phase ≡ phase_after stop) }
         ensures never_missing { ¬ (result ≡ Ok (Stop.Fault FaultKind.Missing)) }
 
-        ensures charged { OnErr result (IsCharged (instrs self.old.program) (λ callee. run_on callee self.old budget.old) budget.new) }
+        ensures charged { OnErr result (IsCharged (instrs self.old.program) (λ callee. run_on callee self.old budget.old) budget.new self.new.at) }
         ensures ended { OnErr result (self.new.phase ≡ Phase.Ended) }
 
         ensures budget { budget.new ≤ budget.old }

@@ -26,7 +26,7 @@ pub struct Progress {
 impl Progress {
     ghost use Rattle.lex_loops.specs.Memories.{before, IsWithin};
     ghost use Rattle.lex_loops.specs.State.{IsCharged, StopsAs, cost_of};
-    ghost use Rattle.lex_loops.specs.Steps.{memory_in, run_in, answered_in, marked_anew, IsAtStart, IsUnderWay, HasRoom, Takes, IsAtEnd, IsOwn, Steps, KeepsOn, Acts};
+    ghost use Rattle.lex_loops.specs.Steps.{memory_in, run_in, answered_in, marked_anew, Serves, HasLogged, IsAtStart, IsUnderWay, HasRoom, Takes, IsAtEnd, IsOwn, Steps, KeepsOn, Acts};
 
     /// The start of a run, with the argument in cell 0.
     pub fn start(alloc: Global, arg: Num) -> Result<Progress, AllocError>
@@ -83,6 +83,7 @@ impl Progress {
         ensures own { IfOk result IsOwn }
         ensures less { IfOk result (λ stop. IfNone stop (budget.new < budget.old)) }
         ensures charged { OnErr result (budget.new + 1 ≡ budget.old) }
+        ensures past { OnErr result (self.new.at ≡ self.old.at + 1) }
         ensures budget { budget.new ≤ budget.old }
         ensures len { length self.old.cells.values.items ≤ length self.new.cells.values.items }
     {
@@ -111,6 +112,7 @@ impl Progress {
         ensures own { IfOk result IsOwn }
         ensures less { IfOk result (λ stop. IfNone stop (budget.new < budget.old)) }
         ensures charged { OnErr result (budget.new + max 1 count ≡ budget.old) }
+        ensures past { OnErr result (self.new.at ≡ self.old.at + 1) }
         ensures budget { budget.new ≤ budget.old }
         ensures len { length self.old.cells.values.items ≤ length self.new.cells.values.items }
     {
@@ -138,6 +140,7 @@ impl Progress {
         ensures own { IfOk result IsOwn }
         ensures less { IfOk result (λ stop. IfNone stop (budget.new < budget.old)) }
         ensures charged { OnErr result (budget.new + 1 ≡ budget.old) }
+        ensures past { OnErr result (self.new.at ≡ self.old.at + 1) }
         ensures budget { budget.new ≤ budget.old }
         ensures len { length self.old.cells.values.items ≤ length self.new.cells.values.items }
     {
@@ -166,6 +169,7 @@ impl Progress {
         ensures own { IfOk result IsOwn }
         ensures less { IfOk result (λ stop. IfNone stop (budget.new < budget.old)) }
         ensures charged { OnErr result (budget.new + 1 ≡ budget.old) }
+        ensures past { OnErr result (self.new.at ≡ self.old.at + 1) }
         ensures budget { budget.new ≤ budget.old }
         ensures len { length self.old.cells.values.items ≤ length self.new.cells.values.items }
     {
@@ -210,16 +214,21 @@ impl Progress {
         None
     }
 
-    // Marks a loop anew and goes back to its body. Outside of every other loop nothing before this iteration is undone.
+    // Marks a loop anew and goes back to its body. Outside of every other loop nothing before this iteration is undone; inside
+    // of one the log is kept short.
     fn again(&mut self, mark: Mark)
-        requires { vec_len self.old.marks < vec_capacity self.old.marks }
+        requires room { vec_len self.old.marks < vec_capacity self.old.marks }
+        requires logged { HasLogged self.old.marks.items self.old.cells.log.items }
+        requires within { IsWithin (length self.old.cells.values.items) self.old.cells.log.items }
         ensures at { self.new.at ≡ mark.body }
         ensures values { self.new.cells.values.items ≡ self.old.cells.values.items }
-        ensures log { self.new.cells.log.items ≡ (if vec_len self.old.marks == 0 then [] else self.old.cells.log.items) }
+        ensures log { Serves self.old.marks.items self.old.cells.log.items self.new.cells.log.items }
+        ensures within { IsWithin (length self.new.cells.values.items) self.new.cells.log.items }
         ensures marks { self.new.marks.items ≡ self.old.marks.items ++ marked_anew mark (length self.new.cells.log.items) ∷ [] }
     {
-        if self.marks.is_empty() {
-            self.cells.log.clear();
+        match self.marks.last() {
+            Some(outer) => self.cells.shorten(outer.logged),
+            None => self.cells.log.clear(),
         }
         self.marks.push_reserved(Mark {
             body: mark.body,
@@ -253,7 +262,7 @@ impl Progress {
         ensures steps { IfOk result (λ stop. Steps list.now self.old budget.old stop budget.new self.new) }
         ensures own { IfOk result IsOwn }
         ensures less { IfOk result (λ stop. IfNone stop (budget.new < budget.old)) }
-        ensures charged { OnErr result (IsCharged list.now (λ callee. run_in callee list.now self.old budget.old) budget.new) }
+        ensures charged { OnErr result (IsCharged list.now (λ callee. run_in callee list.now self.old budget.old) budget.new self.new.at) }
         ensures budget { budget.new ≤ budget.old }
         ensures len { length self.old.cells.values.items ≤ length self.new.cells.values.items }
     {
@@ -271,13 +280,14 @@ impl Progress {
     }
 
     /// Runs on through a list of instructions, up to its end, its next call, a fault, or a cost greater than the budget.
+    #[inline(never)]
     pub fn run(&mut self, list: &[Instr], budget: &mut u64) -> Result<Stop, AllocError>
         requires program { IsProgram list.now }
         requires under_way { IsUnderWay list.now self.old }
         ensures stops { IfOk result (λ stop. StopsAs (λ callee. run_in callee list.now self.old budget.old) stop budget.new (λ callee. answered_in callee list.now self.new)) }
         ensures keeps_on { IfOk result (λ stop. KeepsOn list.now (Some stop) self.new) }
         ensures own { IfOk result (λ stop. IsOwn (Some stop)) }
-        ensures charged { OnErr result (IsCharged list.now (λ callee. run_in callee list.now self.old budget.old) budget.new) }
+        ensures charged { OnErr result (IsCharged list.now (λ callee. run_in callee list.now self.old budget.old) budget.new self.new.at) }
         ensures budget { budget.new ≤ budget.old }
         ensures len { length self.old.cells.values.items ≤ length self.new.cells.values.items }
     {

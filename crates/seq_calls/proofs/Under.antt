@@ -1,5 +1,6 @@
 -- What holds while frames run.
-use Rattle.std.proofs.Common.{ℕ, ◌+◌, ◌-◌, ◌≤◌, ◌≡◌, refl, sym, ap, subst, ◌∙◌, arith, ℤ, Bool, IsTrue, List, [], ◌∷◌, ◌++◌, append_assoc, append-nil}
+use Rattle.std.proofs.Common.{Bor, ℕ, ◌+◌, ◌-◌, ◌≤◌, ◌≡◌, refl, sym, ap, subst, ◌∙◌, arith, ℤ, Bool, IsTrue, List, [], ◌∷◌, ◌++◌, append_assoc, append-nil}
+use Rattle.std.specs.Global.{Box}
 use Rattle.std.specs.declared.option.Option.{Option}
 use Rattle.std.specs.declared.option.Option.TheVariants.{Some, None}
 use Rattle.loda_syntax.specs.Programs.{Text}
@@ -15,15 +16,15 @@ use Rattle.seq_calls.specs.declared.unfinished.Frame.{Frame}
 use Rattle.seq_calls.specs.declared.unfinished.Caller.{Caller}
 use Rattle.seq_calls.specs.declared.outcomes.NodeRun.{NodeRun}
 use Rattle.seq_calls.specs.declared.outcomes.Outcome.TheVariants as told_as
-use Rattle.seq_calls.specs.declared.evaluation.Run.{Run}
+use Rattle.seq_calls.specs.declared.outcomes.Outcome.{Outcome as Told}
 use Rattle.seq_calls.specs.Frames.{pair, direct, steps_below, nodes_in, node_of, told, steps_of, nodes_of}
 use Rattle.seq_calls.specs.Under.{ended_run, named_run, IsRun}
 use Rattle.seq_calls.proofs.Joined.{join-none, after-none, direct_join, steps_join, nodes_join}
 use Rattle.seq_calls.proofs.Unwind.{Waiting, unwind, nodes_before, AreGiven, push_call, missing_call, pop_value, unwind_failed, unwind_spent}
 
--- a frame that has made these calls, and has so many steps left
-pub record Stands (kept : Bool) (f : Frame) (before : Calls) (left : ℕ) : Type 0 where
-  pub text : f.machine.program ≡ f.program.now
+-- a frame of a program that has made these calls, and has so many steps left
+pub record Stands (kept : Bool) (p : Text) (f : Frame) (before : Calls) (left : ℕ) : Type 0 where
+  pub text : f.machine.program ≡ p
   pub calls : IsTrue kept → f.calls.items ≡ direct before
   pub below : f.below ≡ steps_below before
   pub within : f.below + left ≤ f.given
@@ -32,32 +33,32 @@ pub record Stands (kept : Bool) (f : Frame) (before : Calls) (left : ℕ) : Type
 -- run has the whole limit
 abbrev pub Wait : Bool → ℕ → ℕ → List Caller → List Calls → Type 0
 Wait kept limit given [] [] = given ≡ limit
-Wait kept limit given (f ∷ fs) (b ∷ bs) = Stands kept f.frame b given × (f.frame.machine.phase ≡ IsWaiting) × Wait kept limit f.frame.given fs bs
+Wait kept limit given (f ∷ fs) (b ∷ bs) = Stands kept f.program.now f.frame.value b given × (f.frame.value.machine.phase ≡ IsWaiting) × Wait kept limit f.frame.value.given fs bs
 Wait kept limit given fs bs = ⊥
 
 abbrev pub waiting : ℕ → List Caller → List Calls → List Waiting
-waiting given (f ∷ fs) (b ∷ bs) = record { state = f.frame.machine; before = b; name = f.call.name; arg = f.call.arg; given = given } ∷ waiting f.frame.given fs bs
+waiting given (f ∷ fs) (b ∷ bs) = record { state = f.frame.value.machine; before = b; name = f.call.name; arg = f.call.arg; given = given } ∷ waiting f.frame.value.given fs bs
 waiting given fs bs = []
 
 -- The frames stand for the rest of the outermost run, which comes to `ran` in the end.
-pub record IsUnder (lib : Library) (kept : Bool) (limit : ℕ) (ran : Outcome × Calls) (frame : Frame) (callers : List Caller) (nodes : List NodeRun) (left : ℕ) : Type 0 where
+pub record IsUnder (lib : Library) (kept : Bool) (limit : ℕ) (ran : Outcome × Calls) (prog : Text) (frame : Frame) (callers : List Caller) (nodes : List NodeRun) (left : ℕ) : Type 0 where
   pub before : Calls
   pub befores : List Calls
   pub ready : frame.machine.phase ≡ Ready
-  pub stands : Stands kept frame before left
+  pub stands : Stands kept prog frame before left
   pub wait : Wait kept limit frame.given callers befores
   pub nodes_are : IsTrue kept → nodes ≡ nodes_before (waiting frame.given callers befores) ++ nodes_in before
   pub run : outcome_of limit (unwind lib (waiting frame.given callers befores) (after_calls before (run_on (run_name lib) frame.machine left))) ≡ ran
 
 -- where a run begins
 pub begins : (lib : Library) (kept : Bool) (limit : ℕ) (x : ℤ) (p : Text) (frame : Frame) → Begins frame.machine p x → frame.machine.program ≡ p → frame.machine.phase ≡ Ready
-    → frame.program.now ≡ p → frame.given ≡ limit → frame.calls.items ≡ [] → frame.below ≡ 0 → IsUnder lib kept limit (run_text lib p x limit) frame [] [] limit
-begins lib kept limit x p frame start text ready program given calls below = record {
+    → frame.given ≡ limit → frame.calls.items ≡ [] → frame.below ≡ 0 → IsUnder lib kept limit (run_text lib p x limit) p frame [] [] limit
+begins lib kept limit x p frame start text ready given calls below = record {
   before = none;
   befores = [];
   ready = ready;
   stands = record {
-    text = text ∙ sym program;
+    text = text;
     calls = λ k. calls;
     below = below;
     within = omega (arith, below, given);
@@ -72,32 +73,32 @@ given_left : (kept : Bool) (limit left given : ℕ) (callers : List Caller) (bef
 given_left kept limit left given [] [] le w = tt
 given_left kept limit left given [] (b ∷ bs) le w = tt
 given_left kept limit left given (f ∷ fs) [] le w = tt
-given_left kept limit left given (f ∷ fs) (b ∷ bs) le w = (le, given_left kept limit left f.frame.given fs bs (let h = w.0.within in omega (arith, h)) w.2)
+given_left kept limit left given (f ∷ fs) (b ∷ bs) le w = (le, given_left kept limit left f.frame.value.given fs bs (let h = w.0.within in omega (arith, h)) w.2)
 
 left_within : (kept : Bool) (limit left given : ℕ) (callers : List Caller) (befores : List Calls) → left ≤ given → Wait kept limit given callers befores → left ≤ limit
 left_within kept limit left given [] [] le w = omega (arith, w)
 left_within kept limit left given [] (b ∷ bs) le w = absurd w
 left_within kept limit left given (f ∷ fs) [] le w = absurd w
-left_within kept limit left given (f ∷ fs) (b ∷ bs) le w = left_within kept limit left f.frame.given fs bs (let h = w.0.within in omega (arith, h)) w.2
+left_within kept limit left given (f ∷ fs) (b ∷ bs) le w = left_within kept limit left f.frame.value.given fs bs (let h = w.0.within in omega (arith, h)) w.2
 
 -- what is left of the limit
-pub under_limit : (lib : Library) (kept : Bool) (limit : ℕ) (ran : Outcome × Calls) (frame : Frame) (callers : List Caller) (nodes : List NodeRun) (left : ℕ) → IsUnder lib kept limit ran frame callers nodes left → left ≤ limit
-under_limit lib kept limit ran frame callers nodes left h = left_within kept limit left frame.given callers h.befores (let w = h.stands.within in omega (arith, w)) h.wait
+pub under_limit : (lib : Library) (kept : Bool) (limit : ℕ) (ran : Outcome × Calls) (prog : Text) (frame : Frame) (callers : List Caller) (nodes : List NodeRun) (left : ℕ) → IsUnder lib kept limit ran prog frame callers nodes left → left ≤ limit
+under_limit lib kept limit ran prog frame callers nodes left h = left_within kept limit left frame.given callers h.befores (let w = h.stands.within in omega (arith, w)) h.wait
 
 -- ---- a call
 
 -- a frame that waits for the value of r at y
-abbrev pub caller_of : Frame → State → ℕ → ℤ → Caller
-caller_of frame new r y = record { frame = record frame { machine = new }; call = record { name = r; arg = y } }
+abbrev pub caller_of : Bor Text → Box Frame → Frame → State → ℕ → ℤ → Caller
+caller_of program b frame new r y = record { program = program; frame = record b { value = record frame { machine = new } }; call = record { name = r; arg = y } }
 
 -- a call of a name that is there
-pub called : (lib : Library) (kept : Bool) (limit : ℕ) (ran : Outcome × Calls) (frame callee : Frame) (callers : List Caller) (nodes : List NodeRun) (n left r : ℕ) (y : ℤ) (p : Text) (new : State)
-    → IsUnder lib kept limit ran frame callers nodes n → Advances frame.machine n (stop.Call r y) left new → left ≤ n
+pub called : (lib : Library) (kept : Bool) (limit : ℕ) (ran : Outcome × Calls) (program : Bor Text) (b : Box Frame) (frame callee : Frame) (callers : List Caller) (nodes : List NodeRun) (n left r : ℕ) (y : ℤ) (p : Text) (new : State)
+    → IsUnder lib kept limit ran program.now frame callers nodes n → Advances frame.machine n (stop.Call r y) left new → left ≤ n
     → new.program ≡ frame.machine.program → new.phase ≡ IsWaiting
-    → lib r ≡ Some p → Begins callee.machine p y → callee.machine.program ≡ p → callee.machine.phase ≡ Ready → callee.program.now ≡ p
+    → lib r ≡ Some p → Begins callee.machine p y → callee.machine.program ≡ p → callee.machine.phase ≡ Ready
     → callee.given ≡ left → callee.calls.items ≡ [] → callee.below ≡ 0
-    → IsUnder lib kept limit ran callee (caller_of frame new r y ∷ callers) nodes left
-called lib kept limit ran frame callee callers nodes n left r y p new u adv le text waits here start begun ready program given calls below =
+    → IsUnder lib kept limit ran p callee (caller_of program b frame new r y ∷ callers) nodes left
+called lib kept limit ran program b frame callee callers nodes n left r y p new u adv le text waits here start begun ready given calls below =
     let st = u.stands in
     let ws = waiting frame.given callers u.befores in
     let W : ℕ → List Waiting = λ (g : ℕ). record { state = new; before = u.before; name = r; arg = y; given = g } ∷ ws in
@@ -106,7 +107,7 @@ called lib kept limit ran frame callee callers nodes n left r y p new u adv le t
       befores = u.before ∷ u.befores;
       ready = ready;
       stands = record {
-        text = begun ∙ sym program;
+        text = begun;
         calls = λ k. calls;
         below = below;
         within = omega (arith, below, given);
@@ -134,39 +135,42 @@ node_is p before v used node h =
     ∙ ap (λ (o : ℕ). N p v o node.calls) h.own ∙ ap (N p v (used - steps_below before)) h.calls
 
 -- the innermost run ends with a value, and its caller goes on
-pub answered : (lib : Library) (kept : Bool) (limit : ℕ) (ran : Outcome × Calls) (frame next : Frame) (caller : Caller) (callers : List Caller) (nodes : List NodeRun) (node : NodeRun) (n left used : ℕ) (v : ℤ) (new : State)
-    → (u : IsUnder lib kept limit ran frame (caller ∷ callers) nodes n) → Advances frame.machine n (stop.Done v) left new → used + left ≡ frame.given
-    → TakesAnswer caller.frame.machine v next.machine → next.machine.phase ≡ Ready → next.machine.program ≡ caller.frame.machine.program → next.program.now ≡ caller.frame.program.now
-    → next.given ≡ caller.frame.given → (IsTrue kept → next.calls.items ≡ caller.frame.calls.items ++ caller.call ∷ []) → next.below ≡ caller.frame.below + used
+pub answered : (lib : Library) (kept : Bool) (limit : ℕ) (ran : Outcome × Calls) (prog : Text) (frame next : Frame) (caller : Caller) (callers : List Caller) (nodes : List NodeRun) (node : NodeRun) (n left used : ℕ) (v : ℤ) (new : State)
+    → (u : IsUnder lib kept limit ran prog frame (caller ∷ callers) nodes n) → Advances frame.machine n (stop.Done v) left new → used + left ≡ frame.given
+    → (held : Frame) → held ≡ caller.frame.value
+    → TakesAnswer held.machine v next.machine → next.machine.phase ≡ Ready → next.machine.program ≡ held.machine.program
+    → next.given ≡ held.given → (IsTrue kept → next.calls.items ≡ held.calls.items ++ caller.call ∷ []) → next.below ≡ held.below + used
     → (IsTrue kept → IsNode caller.call u.before v used node) → (more : List NodeRun) → (IsTrue kept → more ≡ nodes ++ node ∷ [])
-    → IsUnder lib kept limit ran next callers more left
-answered lib kept limit ran frame next caller callers nodes node n left used v new u adv sum takes ready text program given calls below is_node more grown = by_befores u.befores u.wait u.nodes_are u.run
+    → IsUnder lib kept limit ran caller.program.now next callers more left
+answered lib kept limit ran prog frame next caller callers nodes node n left used v new u adv sum held is_held takes ready text given calls below is_node more grown = by_befores u.befores u.wait u.nodes_are u.run
   where
     by_befores : (bs : List Calls) → Wait kept limit frame.given (caller ∷ callers) bs → (IsTrue kept → nodes ≡ nodes_before (waiting frame.given (caller ∷ callers) bs) ++ nodes_in u.before)
         → outcome_of limit (unwind lib (waiting frame.given (caller ∷ callers) bs) (after_calls u.before (run_on (run_name lib) frame.machine n))) ≡ ran
-        → IsUnder lib kept limit ran next callers more left
+        → IsUnder lib kept limit ran caller.program.now next callers more left
     by_befores [] w nodes_are run = absurd w
     by_befores (b ∷ bs) w nodes_are run =
+        let its_given : next.given ≡ caller.frame.value.given = given ∙ ap (λ (f : Frame). f.given) is_held in
+        let its_below : next.below ≡ caller.frame.value.below + used = below ∙ ap (λ (f : Frame). f.below + used) is_held in
         let q = caller.call.name in
         let x = caller.call.arg in
-        let f : Waiting = record { state = caller.frame.machine; before = b; name = q; arg = x; given = frame.given } in
-        let fs = waiting caller.frame.given callers bs in
+        let f : Waiting = record { state = caller.frame.value.machine; before = b; name = q; arg = x; given = frame.given } in
+        let fs = waiting caller.frame.value.given callers bs in
         let inner = join u.before none in
         let made : Calls = call q x (value v used) inner none in
-        let popped = pop_value lib f fs u.before frame.machine next.machine new n left v adv used sum takes in
-        let same : waiting next.given callers bs ≡ fs = ap (λ (g : ℕ). waiting g callers bs) given in
+        let popped = pop_value lib f fs u.before frame.machine next.machine new n left v adv used sum (subst (λ (f : Frame). TakesAnswer f.machine v next.machine) is_held takes) in
+        let same : waiting next.given callers bs ≡ fs = ap (λ (g : ℕ). waiting g callers bs) its_given in
         let node_list : IsTrue kept → node ∷ [] ≡ node_of q x (value v used) inner = λ k. node_is caller.call u.before v used node (is_node k) ∙ ap (node_of q x (value v used)) (sym (join-none u.before)) in
         record {
           before = join b made;
           befores = bs;
           ready = ready;
           stands = record {
-            text = text ∙ w.0.text ∙ sym program;
-            calls = λ k. calls k ∙ ap (λ (ps : List Pair). ps ++ caller.call ∷ []) (w.0.calls k) ∙ sym (direct_join b made);
-            below = (let j = steps_join b made in let bb = w.0.below in omega (arith, j, bb, below));
-            within = (let ww = w.0.within in omega (arith, ww, below, given, sum));
+            text = text ∙ ap (λ (f : Frame). f.machine.program) is_held ∙ w.0.text;
+            calls = λ k. calls k ∙ ap (λ (f : Frame). f.calls.items ++ caller.call ∷ []) is_held ∙ ap (λ (ps : List Pair). ps ++ caller.call ∷ []) (w.0.calls k) ∙ sym (direct_join b made);
+            below = (let j = steps_join b made in let bb = w.0.below in omega (arith, j, bb, its_below));
+            within = (let ww = w.0.within in omega (arith, ww, its_below, its_given, sum));
           };
-          wait = subst (λ (g : ℕ). Wait kept limit g callers bs) (sym given) w.2;
+          wait = subst (λ (g : ℕ). Wait kept limit g callers bs) (sym its_given) w.2;
           nodes_are = λ k. grown k ∙ ap (λ (ns : List NodeRun). ns ++ node ∷ []) (nodes_are k)
               ∙ append_assoc (nodes_before fs ++ nodes_in b) (nodes_in u.before) (node ∷ [])
               ∙ append_assoc (nodes_before fs) (nodes_in b) (nodes_in u.before ++ node ∷ [])
@@ -181,55 +185,55 @@ answered lib kept limit ran frame next caller callers nodes node n left used v n
 -- ---- ends
 
 -- what the whole run comes to, told as the code has it
-told_run : (ran : Outcome × Calls) (name : Option ℕ) (x : ℤ) (n left : ℕ) (run : Run) (o : Outcome) (c : Calls) → ran ≡ (o, c) → run.outcome ≡ told o
-    → ((q : ℕ) → name ≡ Some q → run.nodes ≡ nodes_in c ++ node_of q x o c) → steps_of o + left ≡ n → IsRun ran name x n run left
-told_run ran name x n left run o c is outcome nodes steps = record {
+told_run : (ran : Outcome × Calls) (name : Option ℕ) (x : ℤ) (n left : ℕ) (answer : Told) (made : List NodeRun) (o : Outcome) (c : Calls) → ran ≡ (o, c) → answer ≡ told o
+    → ((q : ℕ) → name ≡ Some q → made ≡ nodes_in c ++ node_of q x o c) → steps_of o + left ≡ n → IsRun ran name x n answer made left
+told_run ran name x n left answer made o c is outcome nodes steps = record {
   outcome = outcome ∙ sym (ap (λ (r : Outcome × Calls). told r.0) is);
-  nodes = λ q e. nodes q e ∙ sym (ap (λ (r : Outcome × Calls). nodes_of q x r) is);
+  finished = λ q e. nodes q e ∙ sym (ap (λ (r : Outcome × Calls). nodes_of q x r) is);
   steps = ap (λ (r : Outcome × Calls). steps_of r.0 + left) is ∙ steps;
 }
 
 -- a fault ends the whole run
-ended_failed : (lib : Library) (kept : Bool) (limit : ℕ) (ran : Outcome × Calls) (name : Option ℕ) (named : (q : ℕ) → name ≡ Some q → IsTrue kept) (x : ℤ) (frame : Frame) (callers : List Caller) (nodes : List NodeRun) (n left : ℕ) (k : FaultKind) (c : Calls) (run : Run)
-    → (u : IsUnder lib kept limit ran frame callers nodes n) → left ≤ n
+ended_failed : (lib : Library) (kept : Bool) (limit : ℕ) (ran : Outcome × Calls) (name : Option ℕ) (named : (q : ℕ) → name ≡ Some q → IsTrue kept) (x : ℤ) (prog : Text) (frame : Frame) (callers : List Caller) (nodes : List NodeRun) (n left : ℕ) (k : FaultKind) (c : Calls) (answer : Told) (made : List NodeRun)
+    → (u : IsUnder lib kept limit ran prog frame callers nodes n) → left ≤ n
     → unwind lib (waiting frame.given callers u.befores) (after_calls u.before (run_on (run_name lib) frame.machine n)) ≡ unwind lib (waiting frame.given callers u.befores) (failed k left c)
-    → nodes_in c ≡ nodes_in u.before → run.outcome ≡ told_as.Fault k (limit - left) → run.nodes ≡ nodes → IsRun ran name x limit run left
-ended_failed lib kept limit ran name named x frame callers nodes n left k c run u le is same_nodes outcome are =
+    → nodes_in c ≡ nodes_in u.before → answer ≡ told_as.Fault k (limit - left) → made ≡ nodes → IsRun ran name x limit answer made left
+ended_failed lib kept limit ran name named x prog frame callers nodes n left k c answer made u le is same_nodes outcome are =
     let ws = waiting frame.given callers u.befores in
     let given = given_left kept limit left frame.given callers u.befores (let w = u.stands.within in omega (arith, w, le)) u.wait in
-    let bound = under_limit lib kept limit ran frame callers nodes n u in
+    let bound = under_limit lib kept limit ran prog frame callers nodes n u in
     let all = unwind_failed lib ws k left c given in
     let whole : ran ≡ (fault k (limit - left), all.0) = sym u.run ∙ ap (outcome_of limit) is ∙ ap (outcome_of limit) all.1 in
-    told_run ran name x limit left run (fault k (limit - left)) all.0 whole outcome
+    told_run ran name x limit left answer made (fault k (limit - left)) all.0 whole outcome
     (λ q e. are ∙ u.nodes_are (named q e) ∙ ap (λ (ns : List NodeRun). nodes_before ws ++ ns) (sym same_nodes) ∙ sym all.2 ∙ sym (append-nil _)) (omega (arith, bound, le))
 
-pub faulted : (lib : Library) (kept : Bool) (limit : ℕ) (ran : Outcome × Calls) (name : Option ℕ) (named : (q : ℕ) → name ≡ Some q → IsTrue kept) (x : ℤ) (frame : Frame) (callers : List Caller) (nodes : List NodeRun) (n left : ℕ) (k : FaultKind) (new : State) (run : Run)
-    → IsUnder lib kept limit ran frame callers nodes n → left ≤ n → Advances frame.machine n (stop.Fault k) left new
-    → run.outcome ≡ told_as.Fault k (limit - left) → run.nodes ≡ nodes → IsRun ran name x limit run left
-faulted lib kept limit ran name named x frame callers nodes n left k new run u le adv outcome are =
-    ended_failed lib kept limit ran name named x frame callers nodes n left k (join u.before none) run u le
+pub faulted : (lib : Library) (kept : Bool) (limit : ℕ) (ran : Outcome × Calls) (name : Option ℕ) (named : (q : ℕ) → name ≡ Some q → IsTrue kept) (x : ℤ) (prog : Text) (frame : Frame) (callers : List Caller) (nodes : List NodeRun) (n left : ℕ) (k : FaultKind) (new : State) (answer : Told) (made : List NodeRun)
+    → IsUnder lib kept limit ran prog frame callers nodes n → left ≤ n → Advances frame.machine n (stop.Fault k) left new
+    → answer ≡ told_as.Fault k (limit - left) → made ≡ nodes → IsRun ran name x limit answer made left
+faulted lib kept limit ran name named x prog frame callers nodes n left k new answer made u le adv outcome are =
+    ended_failed lib kept limit ran name named x prog frame callers nodes n left k (join u.before none) answer made u le
     (ap (λ (e : Ending). unwind lib (waiting frame.given callers u.befores) (after_calls u.before e)) (adv (run_name lib))) (ap nodes_in (join-none u.before)) outcome are
 
-pub missing : (lib : Library) (kept : Bool) (limit : ℕ) (ran : Outcome × Calls) (name : Option ℕ) (named : (q : ℕ) → name ≡ Some q → IsTrue kept) (x : ℤ) (frame : Frame) (callers : List Caller) (nodes : List NodeRun) (n left r : ℕ) (y : ℤ) (new : State) (run : Run)
-    → IsUnder lib kept limit ran frame callers nodes n → left ≤ n → Advances frame.machine n (stop.Call r y) left new → lib r ≡ None
-    → run.outcome ≡ told_as.Fault Missing (limit - left) → run.nodes ≡ nodes → IsRun ran name x limit run left
-missing lib kept limit ran name named x frame callers nodes n left r y new run u le adv gone outcome are =
+pub missing : (lib : Library) (kept : Bool) (limit : ℕ) (ran : Outcome × Calls) (name : Option ℕ) (named : (q : ℕ) → name ≡ Some q → IsTrue kept) (x : ℤ) (prog : Text) (frame : Frame) (callers : List Caller) (nodes : List NodeRun) (n left r : ℕ) (y : ℤ) (new : State) (answer : Told) (made : List NodeRun)
+    → IsUnder lib kept limit ran prog frame callers nodes n → left ≤ n → Advances frame.machine n (stop.Call r y) left new → lib r ≡ None
+    → answer ≡ told_as.Fault Missing (limit - left) → made ≡ nodes → IsRun ran name x limit answer made left
+missing lib kept limit ran name named x prog frame callers nodes n left r y new answer made u le adv gone outcome are =
     let gone_call : Calls = call r y (fault Missing 0) none none in
-    ended_failed lib kept limit ran name named x frame callers nodes n left Missing (join u.before gone_call) run u le
+    ended_failed lib kept limit ran name named x prog frame callers nodes n left Missing (join u.before gone_call) answer made u le
     (missing_call lib (waiting frame.given callers u.befores) u.before frame.machine new n left r y adv gone)
     (nodes_join u.before gone_call ∙ append-nil (nodes_in u.before)) outcome are
 
-pub ran_out : (lib : Library) (kept : Bool) (limit : ℕ) (ran : Outcome × Calls) (name : Option ℕ) (named : (q : ℕ) → name ≡ Some q → IsTrue kept) (x : ℤ) (frame : Frame) (callers : List Caller) (nodes : List NodeRun) (n left : ℕ) (new : State) (run : Run)
-    → IsUnder lib kept limit ran frame callers nodes n → left ≤ n → Advances frame.machine n stop.Spent left new
-    → run.outcome ≡ told_as.OutOfSteps → run.nodes ≡ nodes → IsRun ran name x limit run left
-ran_out lib kept limit ran name named x frame callers nodes n left new run u le adv outcome are =
+pub ran_out : (lib : Library) (kept : Bool) (limit : ℕ) (ran : Outcome × Calls) (name : Option ℕ) (named : (q : ℕ) → name ≡ Some q → IsTrue kept) (x : ℤ) (prog : Text) (frame : Frame) (callers : List Caller) (nodes : List NodeRun) (n left : ℕ) (new : State) (answer : Told) (made : List NodeRun)
+    → IsUnder lib kept limit ran prog frame callers nodes n → left ≤ n → Advances frame.machine n stop.Spent left new
+    → answer ≡ told_as.OutOfSteps → made ≡ nodes → IsRun ran name x limit answer made left
+ran_out lib kept limit ran name named x prog frame callers nodes n left new answer made u le adv outcome are =
     let c : Calls = join u.before none in
     let ws = waiting frame.given callers u.befores in
     let given = given_left kept limit left frame.given callers u.befores (let w = u.stands.within in omega (arith, w, le)) u.wait in
-    let bound = under_limit lib kept limit ran frame callers nodes n u in
+    let bound = under_limit lib kept limit ran prog frame callers nodes n u in
     let all = unwind_spent lib ws left c given in
     let whole : ran ≡ (out (limit - left), all.0) = sym u.run ∙ ap (λ (e : Ending). outcome_of limit (unwind lib ws (after_calls u.before e))) (adv (run_name lib)) ∙ ap (outcome_of limit) all.1 in
-    told_run ran name x limit left run (out (limit - left)) all.0 whole outcome
+    told_run ran name x limit left answer made (out (limit - left)) all.0 whole outcome
     (λ q e. are ∙ u.nodes_are (named q e) ∙ ap (λ (ns : List NodeRun). nodes_before ws ++ ns) (ap nodes_in (sym (join-none u.before))) ∙ sym all.2 ∙ sym (append-nil _)) (omega (arith, bound, le))
 
 -- its own finished run, of what its frame holds
@@ -240,13 +244,13 @@ named_run-is q x v used below calls before same_below same_calls =
     ap (λ (b : ℕ). N (used - b) calls) same_below ∙ ap (N (used - steps_below before)) same_calls
 
 -- the outermost run ends with a value, and what it adds to the nodes is its own
-pub finished : (lib : Library) (kept : Bool) (limit : ℕ) (ran : Outcome × Calls) (name : Option ℕ) (named : (q : ℕ) → name ≡ Some q → IsTrue kept) (x : ℤ) (frame : Frame) (nodes : List NodeRun) (n left used : ℕ) (v : ℤ) (new : State) (run : Run)
-    → IsUnder lib kept limit ran frame [] nodes n → Advances frame.machine n (stop.Done v) left new → used + left ≡ frame.given
-    → run.outcome ≡ told_as.Value v used → run.nodes ≡ nodes ++ named_run name x v (used - frame.below) frame.calls.items → IsRun ran name x limit run left
-finished lib kept limit ran name named x frame nodes n left used v new run u adv sum outcome are = by_befores u.befores u.wait u.nodes_are u.run
+pub finished : (lib : Library) (kept : Bool) (limit : ℕ) (ran : Outcome × Calls) (name : Option ℕ) (named : (q : ℕ) → name ≡ Some q → IsTrue kept) (x : ℤ) (prog : Text) (frame : Frame) (nodes : List NodeRun) (n left used : ℕ) (v : ℤ) (new : State) (answer : Told) (made : List NodeRun)
+    → IsUnder lib kept limit ran prog frame [] nodes n → Advances frame.machine n (stop.Done v) left new → used + left ≡ frame.given
+    → answer ≡ told_as.Value v used → made ≡ nodes ++ named_run name x v (used - frame.below) frame.calls.items → IsRun ran name x limit answer made left
+finished lib kept limit ran name named x prog frame nodes n left used v new answer made u adv sum outcome are = by_befores u.befores u.wait u.nodes_are u.run
   where
     by_befores : (bs : List Calls) → Wait kept limit frame.given [] bs → (IsTrue kept → nodes ≡ nodes_before (waiting frame.given [] bs) ++ nodes_in u.before)
-        → outcome_of limit (unwind lib (waiting frame.given [] bs) (after_calls u.before (run_on (run_name lib) frame.machine n))) ≡ ran → IsRun ran name x limit run left
+        → outcome_of limit (unwind lib (waiting frame.given [] bs) (after_calls u.before (run_on (run_name lib) frame.machine n))) ≡ ran → IsRun ran name x limit answer made left
     by_befores (b ∷ bs) w nodes_are whole = absurd w
     by_befores [] w nodes_are whole =
         let d = adv (run_name lib) in
@@ -256,39 +260,43 @@ finished lib kept limit ran name named x frame nodes n left used v new run u adv
         sym whole ∙ ap (λ (e : Ending). outcome_of limit (after_calls u.before e)) d.1 ∙ ap (λ (z : ℤ). (value z (limit - left), c)) d.2 ∙ ap (λ (s : ℕ). (value v s, c)) spent_is in
         let own = λ (q : ℕ) (e : name ≡ Some q). ap (λ (m : Option ℕ). named_run m x v (used - frame.below) frame.calls.items) e
         ∙ named_run-is q x v used frame.below frame.calls.items u.before u.stands.below (u.stands.calls (named q e)) ∙ ap (node_of q x (value v used)) (sym (join-none u.before)) in
-        told_run ran name x limit left run (value v used) c is outcome
+        told_run ran name x limit left answer made (value v used) c is outcome
         (λ q e. are ∙ ap (λ (ns : List NodeRun). ns ++ named_run name x v (used - frame.below) frame.calls.items) (nodes_are (named q e) ∙ ap nodes_in (sym (join-none u.before)))
         ∙ ap (λ (ns : List NodeRun). nodes_in c ++ ns) (own q e)) (omega (arith, w, sum))
 
 -- ---- what the code has
 
-pub moved : (lib : Library) (kept : Bool) (limit : ℕ) (ran : Outcome × Calls) (frame : Frame) (cs ds : List Caller) (ns ms : List NodeRun) (left : ℕ) → ds ≡ cs → ms ≡ ns → IsUnder lib kept limit ran frame cs ns left → IsUnder lib kept limit ran frame ds ms left
-moved lib kept limit ran frame cs ds ns ms left ec en u =
-    subst (λ (z : List Caller). IsUnder lib kept limit ran frame z ms left) (sym ec) (subst (λ (z : List NodeRun). IsUnder lib kept limit ran frame cs z left) (sym en) u)
+pub moved : (lib : Library) (kept : Bool) (limit : ℕ) (ran : Outcome × Calls) (prog : Text) (frame : Frame) (cs ds : List Caller) (ns ms : List NodeRun) (left : ℕ) → ds ≡ cs → ms ≡ ns → IsUnder lib kept limit ran prog frame cs ns left → IsUnder lib kept limit ran prog frame ds ms left
+moved lib kept limit ran prog frame cs ds ns ms left ec en u =
+    subst (λ (z : List Caller). IsUnder lib kept limit ran prog frame z ms left) (sym ec) (subst (λ (z : List NodeRun). IsUnder lib kept limit ran prog frame cs z left) (sym en) u)
+
+-- the frame is what its box holds
+pub framed : (lib : Library) (kept : Bool) (limit : ℕ) (ran : Outcome × Calls) (prog : Text) (f g : Frame) (callers : List Caller) (nodes : List NodeRun) (n : ℕ) → g ≡ f → IsUnder lib kept limit ran prog f callers nodes n → IsUnder lib kept limit ran prog g callers nodes n
+framed lib kept limit ran prog f g callers nodes n e u = subst (λ (z : Frame). IsUnder lib kept limit ran prog z callers nodes n) (sym e) u
 
 -- the innermost caller waits, and its callee's steps fit
 pub record CallerWaits (caller callee : Frame) (limit : ℕ) : Type 0 where
   pub waits : caller.machine.phase ≡ IsWaiting
   pub room : caller.below + callee.given ≤ limit
 
-pub caller_waits : (lib : Library) (kept : Bool) (limit : ℕ) (ran : Outcome × Calls) (frame : Frame) (caller : Caller) (callers : List Caller) (nodes : List NodeRun) (left : ℕ) → IsUnder lib kept limit ran frame (caller ∷ callers) nodes left → CallerWaits caller.frame frame limit
-caller_waits lib kept limit ran frame caller callers nodes left u = by_befores u.befores u.wait
+pub caller_waits : (lib : Library) (kept : Bool) (limit : ℕ) (ran : Outcome × Calls) (prog : Text) (frame : Frame) (caller : Caller) (callers : List Caller) (nodes : List NodeRun) (left : ℕ) → IsUnder lib kept limit ran prog frame (caller ∷ callers) nodes left → CallerWaits caller.frame.value frame limit
+caller_waits lib kept limit ran prog frame caller callers nodes left u = by_befores u.befores u.wait
   where
-    by_befores : (bs : List Calls) → Wait kept limit frame.given (caller ∷ callers) bs → CallerWaits caller.frame frame limit
+    by_befores : (bs : List Calls) → Wait kept limit frame.given (caller ∷ callers) bs → CallerWaits caller.frame.value frame limit
     by_befores [] w = absurd w
     by_befores (b ∷ bs) w = record {
       waits = w.1;
-      room = (let a = w.0.within in let top = left_within kept limit caller.frame.given caller.frame.given callers bs (omega arith) w.2 in omega (arith, a, top));
+      room = (let a = w.0.within in let top = left_within kept limit caller.frame.value.given caller.frame.value.given callers bs (omega arith) w.2 in omega (arith, a, top));
     }
 
-pub node_made : (lib : Library) (kept : Bool) (limit : ℕ) (ran : Outcome × Calls) (frame : Frame) (callers : List Caller) (nodes : List NodeRun) (n used : ℕ) (p : Pair) (v : ℤ) → (u : IsUnder lib kept limit ran frame callers nodes n)
+pub node_made : (lib : Library) (kept : Bool) (limit : ℕ) (ran : Outcome × Calls) (prog : Text) (frame : Frame) (callers : List Caller) (nodes : List NodeRun) (n used : ℕ) (p : Pair) (v : ℤ) → (u : IsUnder lib kept limit ran prog frame callers nodes n)
     → IsTrue kept → IsNode p u.before v used (ended_run p v (used - frame.below) frame.calls.items)
-node_made lib kept limit ran frame callers nodes n used p v u k = record {
+node_made lib kept limit ran prog frame callers nodes n used p v u k = record {
   pair = refl;
   value = refl;
   own = ap (λ (b : ℕ). used - b) u.stands.below;
   calls = u.stands.calls k;
 }
 
-pub given_back : (lib : Library) (kept : Bool) (limit : ℕ) (ran : Outcome × Calls) (frame : Frame) (callers : List Caller) (nodes : List NodeRun) (n left : ℕ) → IsUnder lib kept limit ran frame callers nodes n → left ≤ n → (frame.given - left) + left ≡ frame.given
-given_back lib kept limit ran frame callers nodes n left u le = let w = u.stands.within in omega (arith, w, le)
+pub given_back : (lib : Library) (kept : Bool) (limit : ℕ) (ran : Outcome × Calls) (prog : Text) (frame : Frame) (callers : List Caller) (nodes : List NodeRun) (n left : ℕ) → IsUnder lib kept limit ran prog frame callers nodes n → left ≤ n → (frame.given - left) + left ≡ frame.given
+given_back lib kept limit ran prog frame callers nodes n left u le = let w = u.stands.within in omega (arith, w, le)

@@ -1,5 +1,5 @@
 -- Which arguments a run demands of a name, and which the published programs demand at their checked arguments.
-use Rattle.std.specs.Prelude.{ℕ, ◌-◌, ◌^◌, ◌<◌, ◌≡◌, ◌⊎◌, ℤ, pos}
+use Rattle.std.specs.Prelude.{ℕ, ◌-◌, ◌^◌, ◌<◌, ◌≤◌, ◌≡◌, ◌⊎◌, ℤ, pos}
 use Rattle.std.specs.declared.option.Option.TheVariants.{Some}
 use Rattle.loda_semantics.specs.Exec.{Calls, none, call, run_name}
 use Rattle.program_store.specs.declared.published.Published.{Published}
@@ -10,7 +10,7 @@ abbrev pub InTrace : ℕ → ℤ → Calls → Type 0
 InTrace q x none = ⊥
 InTrace q x (call r y o inner rest) = ((q ≡ r) × (x ≡ y)) ⊎ (InTrace q x inner ⊎ InTrace q x rest)
 
--- more steps than any checked run uses
+-- at least as many steps as any checked run uses
 unfoldable pub ample : ℕ
 ample = 2 ^ 64 - 1
 
@@ -18,6 +18,12 @@ ample = 2 ^ 64 - 1
 abbrev pub Demands : Store → ℕ → ℕ → ℕ → ℤ → Type 0
 Demands s caller index q x =
     (e : Published) × (published_at s caller ≡ Some e) × (index < e.checked) × InTrace q x (run_name (programs_of s) caller (pos index) ample).1
+
+-- the least pair of a published name and a checked argument whose run demands x
+abbrev pub LeastCaller : Store → ℕ → ℤ → ℕ → ℕ → Type 0
+LeastCaller s q x caller index =
+    Demands s caller index q x
+    × ((c i : ℕ) → Demands s c i q x → (caller < c) ⊎ ((caller ≡ c) × (index ≤ i)))
 
 -- x is demanded of q
 abbrev pub InDem : Store → ℕ → ℤ → Type 0

@@ -18,6 +18,7 @@ steps_of (value v used) = used
 steps_of (fault kind used) = used
 steps_of (out used) = used
 
+-- a name and an argument
 abbrev pub pair : ℕ → ℤ → Pair
 pair q x = record { name = q; arg = x }
 

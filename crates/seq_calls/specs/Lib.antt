@@ -1,3 +1,5 @@
 pub mod Demand
 pub mod Frames
 pub mod Under
+pub mod Values
+pub mod Runs

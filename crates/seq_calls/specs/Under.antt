@@ -4,7 +4,7 @@ use Rattle.std.specs.declared.option.Option.{Option}
 use Rattle.std.specs.declared.option.Option.TheVariants.{Some, None}
 use Rattle.loda_semantics.specs.Exec.{Outcome, Calls}
 use Rattle.loda_semantics.specs.declared.kinds.Pair.{Pair}
-use Rattle.seq_calls.specs.declared.evaluation.Run.{Run}
+use Rattle.seq_calls.specs.declared.outcomes.Outcome.{Outcome as Told}
 use Rattle.seq_calls.specs.declared.outcomes.NodeRun.{NodeRun}
 use Rattle.seq_calls.specs.Frames.{pair, told, steps_of, nodes_of}
 
@@ -19,7 +19,7 @@ named_run None x v own calls = []
 
 -- Of a run at x, under a name or none, that comes to this: the outcome, where it has a name the finished runs, and the
 -- steps that are left of n.
-pub record IsRun (ran : Outcome × Calls) (name : Option ℕ) (x : ℤ) (n : ℕ) (run : Run) (left : ℕ) : Type 0 where
-  pub outcome : run.outcome ≡ told ran.0
-  pub nodes : (q : ℕ) → name ≡ Some q → run.nodes ≡ nodes_of q x ran
+pub record IsRun (ran : Outcome × Calls) (name : Option ℕ) (x : ℤ) (n : ℕ) (told_of : Told) (nodes : List NodeRun) (left : ℕ) : Type 0 where
+  pub outcome : told_of ≡ told ran.0
+  pub finished : (q : ℕ) → name ≡ Some q → nodes ≡ nodes_of q x ran
   pub steps : steps_of ran.0 + left ≡ n

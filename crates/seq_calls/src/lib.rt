@@ -11,7 +11,7 @@ mod tests;
 mod unfinished;
 
 pub use counting::Steps;
-pub use evaluation::{Run, evaluate, evaluate_alone, evaluate_text, outcome_alone};
+pub use evaluation::{Evaluator, Run, evaluate, evaluate_alone, evaluate_text, outcome_alone};
 pub use finished::Frames;
 pub use loda_semantics::Pair;
 pub use outcomes::{NodeRun, Outcome};

@@ -2,7 +2,7 @@
 
 ghost use Rattle.std.specs.Prelude.{◌≡◌, ◌<◌};
 
-use crate::{NodeRun, Outcome, Run, Steps, evaluate, evaluate_text, outcome_alone};
+use crate::{Evaluator, NodeRun, Outcome, Run, Steps, evaluate, evaluate_text, outcome_alone};
 use checked_numbers::Num;
 use loda_semantics::FaultKind;
 use loda_syntax::{Program, parse};
@@ -260,6 +260,7 @@ fn is_node(run: &NodeRun, node: &Node) -> bool {
 
 #[test]
 fn names(rt: HostRuntime) -> Result<(), Fail> {
+    let mut evaluator = Evaluator::new(rt.alloc());
     for row in &ROWS {
         let store = parse_store(rt.alloc(), row.text.as_bytes())?;
         let run = run_of(rt.alloc(), &store, row.name, number(row.arg)?, row.limit)?;
@@ -272,6 +273,12 @@ fn names(rt: HostRuntime) -> Result<(), Fail> {
         );
         let alone = outcome_alone(rt.alloc(), &store, row.name, number(row.arg)?, row.limit)?;
         assert_eq!(rt; alone, want, "{} of {}", row.name, row.text);
+        let later = evaluator.outcome_alone(&store, row.name, number(row.arg)?, row.limit)?;
+        assert_eq!(rt; later, want, "{} of {}", row.name, row.text);
+        let kept = evaluator.evaluate_alone(&store, row.name, number(row.arg)?, row.limit)?;
+        assert_eq!(rt; kept.outcome, want, "{} of {}", row.name, row.text);
+        let count = kept.nodes.list().len();
+        assert_eq!(rt; count, row.nodes.len(), "{} of {}", row.name, row.text);
         let nodes = run.nodes.list();
         assert_eq!(rt;
             nodes.len(),

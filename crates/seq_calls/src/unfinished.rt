@@ -11,91 +11,103 @@ use lex_loops::Machine;
 use loda_semantics::Pair;
 use loda_syntax::Program;
 use std::alloc::{AllocError, Global};
+use std::mem::replace;
 
-/// A run: its machine and program, how many steps it was given, its calls so far, and the steps that they used.
+/// A run: its machine, how many steps it was given, its calls so far, and the steps that they used.
 #[derive(Drop)]
-pub struct Frame<'a> {
+pub struct Frame {
     pub machine: Machine,
-    pub program: &'a Program,
     pub given: u64,
     pub calls: Vec<Pair>,
     pub below: u64,
 }
 
-/// A run that waits for the value of a call.
+/// A run of a program that waits for the value of a call.
 #[derive(Drop)]
 pub struct Caller<'a> {
-    pub frame: Frame<'a>,
+    pub program: &'a Program,
+    pub frame: Box<Frame>,
     pub call: Pair,
 }
 
-// A machine at the start of a program: one of the free ones, if there is one, or else a new one.
-fn machine_for(
+// A frame in new memory.
+fn begin_anew(
     alloc: Global,
-    free: &mut Vec<Machine>,
     program: &Program,
     arg: Num,
-) -> Result<Machine, AllocError>
-    ensures begins { IfOk result (λ machine. Begins machine program.now arg) }
-    ensures program { IfOk result (λ machine. machine.program ≡ program.now) }
-    ensures phase { IfOk result (λ machine. machine.phase ≡ phase.Ready) }
-{
-    let Some(mut machine) = free.pop() else {
-        return Machine::start(alloc, program, arg);
-    };
-    machine.restart(program, arg);
-    Ok(machine)
-}
-
-/// A run that begins, in one of the free machines if there is one.
-pub fn begin<'a>(
-    alloc: Global,
-    free: &mut Vec<Machine>,
-    program: &'a Program,
-    arg: Num,
     given: u64,
-) -> Result<Frame<'a>, AllocError>
-    ensures begins { IfOk result (λ frame. Begins frame.machine program.now arg) }
-    ensures text { IfOk result (λ frame. frame.machine.program ≡ program.now) }
-    ensures phase { IfOk result (λ frame. frame.machine.phase ≡ phase.Ready) }
-    ensures program { IfOk result (λ frame. frame.program.now ≡ program.now) }
-    ensures given { IfOk result (λ frame. frame.given ≡ given) }
-    ensures calls { IfOk result (λ frame. frame.calls.items ≡ []) }
-    ensures below { IfOk result (λ frame. frame.below ≡ 0) }
+) -> Result<Box<Frame>, AllocError>
+    ensures begins { IfOk result (λ frame. Begins frame.value.machine program.now arg) }
+    ensures text { IfOk result (λ frame. frame.value.machine.program ≡ program.now) }
+    ensures phase { IfOk result (λ frame. frame.value.machine.phase ≡ phase.Ready) }
+    ensures given { IfOk result (λ frame. frame.value.given ≡ given) }
+    ensures calls { IfOk result (λ frame. frame.value.calls.items ≡ []) }
+    ensures below { IfOk result (λ frame. frame.value.below ≡ 0) }
 {
-    let machine = machine_for(alloc, free, program, arg)?;
-    Ok(Frame {
+    let machine = Machine::start(alloc, program, arg)?;
+    let frame = Frame {
         machine,
-        program,
         given,
         calls: Vec::new(alloc),
         below: 0,
-    })
+    };
+    Ok(Box::new(alloc, frame)?)
 }
 
-impl Frame<'_> {
-    /// Takes the frame of a run that has ended apart: the finished run of the name and the argument that the frame was for,
-    /// with its value, its steps without those of its callees, and its calls; and the machine, which is free again.
-    pub fn end(self, pair: Pair, value: Num, used: u64) -> (NodeRun, Machine)
-        requires { self.below ≤ used }
-        ensures pair { result.0.pair ≡ pair }
-        ensures value { result.0.value ≡ value }
-        ensures own { result.0.own + self.entry.below ≡ used }
-        ensures calls { result.0.calls ≡ self.entry.calls.items }
+/// A run that begins, in one of the free frames if there is one, or else in a new one.
+pub fn begin(
+    alloc: Global,
+    free: &mut Vec<Box<Frame>>,
+    program: &Program,
+    arg: Num,
+    given: u64,
+) -> Result<Box<Frame>, AllocError>
+    ensures begins { IfOk result (λ frame. Begins frame.value.machine program.now arg) }
+    ensures text { IfOk result (λ frame. frame.value.machine.program ≡ program.now) }
+    ensures phase { IfOk result (λ frame. frame.value.machine.phase ≡ phase.Ready) }
+    ensures given { IfOk result (λ frame. frame.value.given ≡ given) }
+    ensures calls { IfOk result (λ frame. frame.value.calls.items ≡ []) }
+    ensures below { IfOk result (λ frame. frame.value.below ≡ 0) }
+{
+    let Some(mut frame) = free.pop() else {
+        return begin_anew(alloc, program, arg, given);
+    };
+    frame.begin(program, arg, given);
+    Ok(frame)
+}
+
+impl Frame {
+    // Begins a run in the memory of one that has ended.
+    fn begin(&mut self, program: &Program, arg: Num, given: u64)
+        ensures begins { Begins self.new.machine program.now arg }
+        ensures text { self.new.machine.program ≡ program.now }
+        ensures phase { self.new.machine.phase ≡ phase.Ready }
+        ensures given { self.new.given ≡ given }
+        ensures calls { self.new.calls.items ≡ [] }
+        ensures below { self.new.below ≡ 0 }
     {
-        let Frame {
-            machine,
-            calls,
-            below,
-            ..
-        } = self;
-        let node = NodeRun {
+        self.machine.restart(program, arg);
+        self.given = given;
+        self.calls.clear();
+        self.below = 0;
+    }
+
+    /// Takes the finished run out of the frame of a run that has ended: the name and the argument that it was for, its value,
+    /// its steps without those of its callees, and its calls.
+    pub fn end(&mut self, alloc: Global, pair: Pair, value: Num, used: u64) -> NodeRun
+        requires { self.old.below ≤ used }
+        ensures pair { result.pair ≡ pair }
+        ensures value { result.value ≡ value }
+        ensures own { result.own + self.old.below ≡ used }
+        ensures calls { result.calls ≡ self.old.calls.items }
+    {
+        let calls = replace(&mut self.calls, Vec::new(alloc));
+        NodeRun {
             pair,
             value,
-            own: used - below,
+            own: used - self.below,
             calls: Pairs::of(calls),
-        };
-        (node, machine)
+        }
     }
 
     /// Goes on with the value of a call that used so many steps. The call is kept where runs are.
@@ -105,7 +117,6 @@ impl Frame<'_> {
         ensures answer { OnOk result (TakesAnswer self.old.machine value self.new.machine) }
         ensures ready { OnOk result (self.new.machine.phase ≡ phase.Ready) }
         ensures text { OnOk result (self.new.machine.program ≡ self.old.machine.program) }
-        ensures program { OnOk result (self.new.program.now ≡ self.old.program.now) }
         ensures given { OnOk result (self.new.given ≡ self.old.given) }
         ensures calls { OnOk result (IsTrue kept → self.new.calls.items ≡ self.old.calls.items ++ call ∷ []) }
         ensures below { OnOk result (self.new.below ≡ self.old.below + used) }

@@ -53,6 +53,21 @@ fn nested() -> [Instr; 9] {
     ]
 }
 
+// lpb $0 / sub $0,1 / mov $3,5000 / lpb $3 / sub $3,1 / add $1,1 / lpe / lpe / mov $0,$1
+fn long_iterations() -> [Instr; 9] {
+    [
+        Instr::LoopStart { start: 0, len: 1 },
+        arith(Verb::Sub, 0, Operand::Constant(1)),
+        arith(Verb::Mov, 3, Operand::Constant(5000)),
+        Instr::LoopStart { start: 3, len: 1 },
+        arith(Verb::Sub, 3, Operand::Constant(1)),
+        arith(Verb::Add, 1, Operand::Constant(1)),
+        Instr::LoopEnd,
+        Instr::LoopEnd,
+        arith(Verb::Mov, 0, Operand::Direct(1)),
+    ]
+}
+
 // mov $0,$$0
 fn indirect() -> [Instr; 1] {
     [Instr::Arith {
@@ -102,6 +117,7 @@ fn machine_stops(rt: HostRuntime) -> Result<(), Fail> {
     let fibonacci = fibonacci();
     let region_of_two = region_of_two();
     let nested = nested();
+    let long_iterations = long_iterations();
     let indirect = indirect();
     let cleared = cleared();
     let rows = [
@@ -111,6 +127,14 @@ fn machine_stops(rt: HostRuntime) -> Result<(), Fail> {
         (region_of_two.as_slice(), 0, 100, Stop::Done(number(2)?), 85),
         (region_of_two.as_slice(), 0, 14, Stop::Spent, 0),
         (nested.as_slice(), 2, 1000, Stop::Done(number(6)?), 950),
+        // one iteration that goes on, and one that is undone, of more than 10,000 writes each
+        (
+            long_iterations.as_slice(),
+            1,
+            40000,
+            Stop::Done(number(5000)?),
+            9984,
+        ),
         (indirect.as_slice(), 4095, 9, Stop::Done(number(0)?), 8),
         (
             indirect.as_slice(),

@@ -6,7 +6,7 @@ use Rattle.seq_calls.proofs.evaluation.run_frames.Given as goal
 
 abbrev pub invariant-loop-frame : goal.invariant-loop-frame
 invariant-loop-frame g l = record {
-  under : IsUnder (g.B.Library.programs l.lib) (is_some l.fn.name) l.limit (run_text (g.B.Library.programs l.lib) l.fn.program l.fn.arg l.limit) l.frame (reverse l.callers.items) l.finished.nodes.items l.budget;
+  under : IsUnder (g.B.Library.programs l.lib) (is_some l.fn.name) l.limit (run_text (g.B.Library.programs l.lib) l.fn.program l.fn.arg l.limit) l.text l.frame.value (reverse l.callers.items) l.finished.nodes.items l.budget;
   within : l.budget ≤ l.limit;
   limit : l.limit ≡ l.fn.budget;
   name : l.name ≡ l.fn.name;
