@@ -2,14 +2,15 @@
 use Rattle.std.proofs.Common.{ℕ, ◌≡◌, ◌<◌, ◌≤◌, ◌↔◌, inl, inr, refl, sym, subst, ◌∙◌, ◌∷◌, Contains, arith, IsTrue, IfSome, IfNone}
 use Rattle.std.specs.declared.option.Option.{Option}
 use Rattle.std.specs.declared.option.Option.TheVariants.{Some, None}
-use Rattle.std.specs.Option.{is_some, option_map}
+use Rattle.std.specs.Option.{is_some}
 use Rattle.std.proofs.lemmas.List.Elements.{Contains-append_right}
 use Rattle.std.proofs.lemmas.Bool.{cases_lt}
 use Rattle.loda_syntax.specs.Programs.{Text}
 use Rattle.loda_semantics.specs.Exec.{Library}
-use Rattle.program_store.specs.declared.published.Published.{Published}
-use Rattle.program_store.specs.Store.{Store, IsStore, IsName, programs_of, published_at}
+use Rattle.text_parts.specs.Names.{IsName}
+use Rattle.program_store.specs.Store.{Store, IsStore, programs_of, published_at}
 use Rattle.program_store.specs.Graph.{calls_of, Reaches, FirstWith}
+use Rattle.program_store.proofs.Puts.{published_program}
 use Rattle.call_graph.specs.Closure.{ReachesByCall}
 
 module _ (lib : Library) (from to : ℕ) (p : Text) (has : lib from ≡ Some p) where
@@ -30,18 +31,11 @@ module _ (lib : Library) (from to : ℕ) (p : Text) (has : lib from ≡ Some p) 
 -- ---- names that are published
 
 module _ (s : Store) (k : ℕ) where
-  pub published_program : (p : Text) → programs_of s k ≡ Some p → (e : Published) × (published_at s k ≡ Some e)
-  published_program p has = by (published_at s k) refl has
-    where
-      by : (o : Option Published) → published_at s k ≡ o → option_map (λ (e : Published). e.program) o ≡ Some p → (e : Published) × (published_at s k ≡ Some e)
-      by None is h = absurd cc
-      by (Some e) is h = (e, is)
-
   pub not_there : published_at s k ≡ None → (to : ℕ) → ReachesByCall (programs_of s) k to → ⊥
-  not_there none to path = let e = published_program path.0 path.1 in absurd cc
+  not_there none to path = let e = published_program s k path.0 path.1 in absurd cc
 
   pub is_name : IsStore s → (to : ℕ) → ReachesByCall (programs_of s) k to → IsName k
-  is_name kept to path = let e = published_program path.0 path.1 in kept.named k e.0 e.1
+  is_name kept to path = let e = published_program s k path.0 path.1 in kept.named k e.0 e.1
 
 -- ---- a property of each name up to a place
 

@@ -7,29 +7,26 @@ use Rattle.loda_semantics.proofs.Laws.{more_deep}
 use Rattle.program_store.specs.declared.published.Published.{Published}
 use Rattle.program_store.specs.Store.{Store, published_at, programs_of, checked_in}
 use Rattle.seq_calls.specs.Demand.{InTrace, ample, InDem, IsReliedOn}
-use Rattle.judge.specs.Passed.{Terms, outcome}
+use Rattle.seq_calls.specs.Values.{outcome}
+use Rattle.seq_calls.proofs.Records.{AreAnswered, answered_name}
+use Rattle.seq_calls.proofs.Values.{gives_value}
+use Rattle.seq_calls.specs.Runs.{HasRun}
+use Rattle.seq_calls.proofs.Relied.{is_checked}
+use Rattle.judge.specs.Passed.{Terms}
 use Rattle.judge.specs.Sound.{Sound}
-use Rattle.judge.proofs.Records.{AreAnswered, answered_name}
-use Rattle.judge.proofs.Values.{gives_value, term_at}
+use Rattle.judge.proofs.Values.{term_at}
 
--- a run that has a value within n steps, and its calls
-pub record Runs (lib : Library) (n q : ℕ) (x : ℤ) : Type 0 where
-  pub value_of : ℤ
-  pub used : ℕ
-  pub calls : Calls
-  pub is : run_name lib q x n ≡ (value value_of used, calls)
-
-pub run_of : (lib : Library) (n q : ℕ) (x t : ℤ) (used : ℕ) → outcome lib q x n ≡ value t used → Runs lib n q x
+pub run_of : (lib : Library) (n q : ℕ) (x t : ℤ) (used : ℕ) → outcome lib q x n ≡ value t used → HasRun lib n q x
 run_of lib n q x t used e =
     let ran = run_name lib q x n in
     record { value_of = t; used = used; calls = ran.1; is = ap (λ (z : Outcome). (z, ran.1)) e }
 
 module _ (lib : Library) (n : ℕ) where
-  traced : (q : ℕ) (x : ℤ) (c : Calls) → AreAnswered lib n c → InTrace q x c → Runs lib n q x
+  traced : (q : ℕ) (x : ℤ) (c : Calls) → AreAnswered lib n c → InTrace q x c → HasRun lib n q x
   traced q x none h t = absurd t
   traced q x (call r y o inner rest) h (inl e) =
-      let there : Runs lib n r y = record { value_of = h.0.0; used = h.0.1; calls = inner; is = h.0.3 } in
-      subst (λ (z : ℕ). Runs lib n z x) (sym e.0) (subst (λ (z : ℤ). Runs lib n r z) (sym e.1) there)
+      let there : HasRun lib n r y = record { value_of = h.0.0; used = h.0.1; calls = inner; is = h.0.3 } in
+      subst (λ (z : ℕ). HasRun lib n z x) (sym e.0) (subst (λ (z : ℤ). HasRun lib n r z) (sym e.1) there)
   traced q x (call r y o inner rest) h (inr (inl t)) = traced q x inner h.1 t
   traced q x (call r y o inner rest) h (inr (inr t)) = traced q x rest h.2 t
 
@@ -43,12 +40,8 @@ module _ (lib : Library) (n : ℕ) where
   nested q r x y v used calls (call s z o inner rest) h (inr (inl t)) is u = inr (inl (nested q r x y v used calls inner h.1 t is u))
   nested q r x y v used calls (call s z o inner rest) h (inr (inr t)) is u = inr (inr (nested q r x y v used calls rest h.2 t is u))
 
-pub is_checked : (o : Option Published) (i : ℕ) → i < checked_in o → (e : Published) × (o ≡ Some e) × (i < e.checked)
-is_checked None i lt = absurd (omega arith)
-is_checked (Some e) i lt = (e, refl, lt)
-
 module _ (s : Store) (terms : Terms) (limit : ℕ) (sound : Sound s terms limit) (fits : limit ≤ ample) where
-  pub checked_runs : (q i : ℕ) (e : Published) → published_at s q ≡ Some e → i < e.checked → Runs (programs_of s) limit q (pos i)
+  pub checked_runs : (q i : ℕ) (e : Published) → published_at s q ≡ Some e → i < e.checked → HasRun (programs_of s) limit q (pos i)
   checked_runs q i e there lt =
       let each = sound.each q e there in
       let term = term_at each.0 i (let h = each.3 in omega (arith, h)) in
@@ -60,24 +53,24 @@ module _ (s : Store) (terms : Terms) (limit : ℕ) (sound : Sound s terms limit)
       more_deep (programs_of s) (ample - limit) (suc limit) (suc ample) (programs_of s q) x limit ample v used c (omega (arith, fits)) (omega arith) h
 
   -- what the run of a checked argument calls is demanded
-  pub checked_demands : (q i : ℕ) (e : Published) → published_at s q ≡ Some e → i < e.checked → (ran : Runs (programs_of s) limit q (pos i)) → (r : ℕ) (y : ℤ) → InTrace r y ran.calls → InDem s r y
+  pub checked_demands : (q i : ℕ) (e : Published) → published_at s q ≡ Some e → i < e.checked → (ran : HasRun (programs_of s) limit q (pos i)) → (r : ℕ) (y : ℤ) → InTrace r y ran.calls → InDem s r y
   checked_demands q i e there lt ran r y t =
       let full = with_ample q (pos i) ran.value_of ran.used ran.calls ran.is in
       (q, i, (e, there, lt, subst (λ (c : Calls). InTrace r y c) (sym (ap (λ (p : Outcome × Calls). p.1) full)) t))
 
   -- a demanded argument is in the trace of a checked run
-  in_checked : (q : ℕ) (x : ℤ) → (d : InDem s q x) → (ran : Runs (programs_of s) limit d.0 (pos d.1)) → InTrace q x ran.calls
+  in_checked : (q : ℕ) (x : ℤ) → (d : InDem s q x) → (ran : HasRun (programs_of s) limit d.0 (pos d.1)) → InTrace q x ran.calls
   in_checked q x d ran =
       let full = with_ample d.0 (pos d.1) ran.value_of ran.used ran.calls ran.is in
       subst (λ (c : Calls). InTrace q x c) (ap (λ (p : Outcome × Calls). p.1) full) d.2.3
 
-  pub demanded_runs : (q : ℕ) (x : ℤ) → InDem s q x → Runs (programs_of s) limit q x
+  pub demanded_runs : (q : ℕ) (x : ℤ) → InDem s q x → HasRun (programs_of s) limit q x
   demanded_runs q x d =
       let ran = checked_runs d.0 d.1 d.2.0 d.2.1 d.2.2 in
       traced (programs_of s) limit q x ran.calls (answered_name (programs_of s) limit d.0 (pos d.1) ran.value_of ran.used ran.calls ran.is) (in_checked q x d ran)
 
   -- what the run of a demanded argument calls is demanded
-  pub demanded_demands : (q : ℕ) (x : ℤ) → InDem s q x → (ran : Runs (programs_of s) limit q x) → (r : ℕ) (y : ℤ) → InTrace r y ran.calls → InDem s r y
+  pub demanded_demands : (q : ℕ) (x : ℤ) → InDem s q x → (ran : HasRun (programs_of s) limit q x) → (r : ℕ) (y : ℤ) → InTrace r y ran.calls → InDem s r y
   demanded_demands q x d ran r y t =
       let top = checked_runs d.0 d.1 d.2.0 d.2.1 d.2.2 in
       checked_demands d.0 d.1 d.2.0 d.2.1 d.2.2 top r y
@@ -85,10 +78,10 @@ module _ (s : Store) (terms : Terms) (limit : ℕ) (sound : Sound s terms limit)
       (answered_name (programs_of s) limit d.0 (pos d.1) top.value_of top.used top.calls top.is) (in_checked q x d top) ran.is t)
 
   -- An argument that is relied on has a value, and what its run calls is demanded.
-  pub relied_runs : (q : ℕ) (x : ℤ) → IsReliedOn s q x → (ran : Runs (programs_of s) limit q x) × ((r : ℕ) (y : ℤ) → InTrace r y ran.calls → InDem s r y)
+  pub relied_runs : (q : ℕ) (x : ℤ) → IsReliedOn s q x → (ran : HasRun (programs_of s) limit q x) × ((r : ℕ) (y : ℤ) → InTrace r y ran.calls → InDem s r y)
   relied_runs q x (inr d) = let ran = demanded_runs q x d in (ran, demanded_demands q x d ran)
   relied_runs q x (inl c) =
       let known = is_checked (published_at s q) c.0 c.1 in
       let ran = checked_runs q c.0 known.0 known.1 known.2 in
-      let Both : ℤ → Type 0 = λ x. (ran : Runs (programs_of s) limit q x) × ((r : ℕ) (y : ℤ) → InTrace r y ran.calls → InDem s r y) in
+      let Both : ℤ → Type 0 = λ x. (ran : HasRun (programs_of s) limit q x) × ((r : ℕ) (y : ℤ) → InTrace r y ran.calls → InDem s r y) in
       subst Both (sym c.2) (ran, checked_demands q c.0 known.0 known.1 known.2 ran)

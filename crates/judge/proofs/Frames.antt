@@ -9,12 +9,14 @@ use Rattle.program_store.specs.Store.{Store, published_at, programs_of, checked_
 use Rattle.seq_calls.specs.declared.outcomes.NodeRun.{NodeRun}
 use Rattle.seq_calls.specs.Frames.{nodes_in, node_of, nodes_of}
 use Rattle.seq_calls.specs.Demand.{InTrace, ample}
+use Rattle.seq_calls.proofs.Records.{AreAnswered, answered_name}
+use Rattle.seq_calls.specs.Runs.{HasRun}
+use Rattle.seq_calls.proofs.Relied.{is_checked}
 use Rattle.judge.specs.declared.comparing.CheckedRun.{CheckedRun}
 use Rattle.judge.specs.Passed.{Terms}
 use Rattle.judge.specs.Sound.{Sound}
 use Rattle.judge.specs.Changes.{Relies, IsAmong}
-use Rattle.judge.proofs.Records.{AreAnswered, answered_name}
-use Rattle.judge.proofs.Demanded.{Runs, is_checked, checked_runs, with_ample}
+use Rattle.judge.proofs.Demanded.{checked_runs, with_ample}
 
 module _ (q : ℕ) (x : ℤ) where
   pub among_left : (a b : List NodeRun) → IsAmong q x a → IsAmong q x (a ++ b)
@@ -96,7 +98,7 @@ module _ (s : Store) (terms : Terms) (limit : ℕ) (sound : Sound s terms limit)
   entry : (e : Published) × (published_at s r.name ≡ Some e) × (r.index < e.checked)
   entry = is_checked (published_at s r.name) r.index checked
 
-  ran : Runs (programs_of s) limit r.name (pos r.index)
+  ran : HasRun (programs_of s) limit r.name (pos r.index)
   unfolding entry
   ran = checked_runs s terms limit sound fits r.name r.index entry.0 entry.1 entry.2
 

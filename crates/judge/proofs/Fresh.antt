@@ -1,12 +1,12 @@
 -- The answer to a proposal for a name that isn't published, and what acceptance keeps.
 use Rattle.std.proofs.Common.{ℕ, ◌≤◌, ◌≡◌, sym, subst, ◌∙◌, arith, ℤ, List}
-use Rattle.std.specs.Prelude.{Contains, IfSome, IfNone}
+use Rattle.std.specs.Prelude.{◌<◌, ◌^◌, Contains, IfSome, IfNone}
 use Rattle.std.specs.declared.option.Option.{Option}
 use Rattle.std.specs.declared.option.Option.TheVariants.{Some, None}
 use Rattle.loda_syntax.specs.Programs.{Text}
 use Rattle.loda_semantics.specs.Exec.{Library}
 use Rattle.oeis_terms.specs.Table.{Table, IsTable, row_of}
-use Rattle.program_store.specs.Store.{Store, published_at, programs_of, with_program, checked_at}
+use Rattle.program_store.specs.Store.{Store, published_at, programs_of, with_program, checked_at, after, IsPublished}
 use Rattle.program_store.specs.Graph.{calls_of, Reaches, FirstWith}
 use Rattle.seq_calls.specs.Demand.{ample}
 use Rattle.judge.specs.declared.answer.Answer.{Answer}
@@ -17,7 +17,7 @@ use Rattle.judge.specs.declared.passing.NewCount.TheVariants.{Checked, Wrong}
 use Rattle.judge.specs.Passed.{Terms}
 use Rattle.judge.specs.Misses.{IsNewCount}
 use Rattle.judge.specs.Sound.{Sound}
-use Rattle.judge.specs.Judged.{after, IsPublished, Enters, Passes, IsJudged}
+use Rattle.judge.specs.Judged.{Enters, Passes, IsJudged}
 use Rattle.judge.specs.Kept.{IsKept}
 use Rattle.judge.proofs.Keep.{keep}
 use Rattle.judge.proofs.Rows.{eight_terms}
@@ -59,10 +59,10 @@ judged_new s terms limit q p row checked h new = (
   λ there gainless. unpublished s q new there,
 )
 
-pub within_ample : (limit : ℕ) → limit ≤ 10000000 → limit ≤ ample
+pub within_ample : (limit : ℕ) → limit < 2 ^ 64 → limit ≤ ample
 unfolding ample
 within_ample limit h = omega arith
 
-pub kept : (s : Store) (table : Table) (limit q : ℕ) (p : Text) (answer : Answer) → limit ≤ 10000000 → IsTable table → Sound s (row_of table) limit → IsJudged s (row_of table) limit q p answer → IsKept s (row_of table) limit q p answer
-kept s table limit q p answer few good sound judged = λ checked e.
-    keep s (row_of table) limit q p checked (within_ample limit few) (eight_terms table good) sound (subst (λ (a : Answer). IsJudged s (row_of table) limit q p a) e judged)
+pub kept : (s : Store) (table : Table) (limit q : ℕ) (p : Text) (answer : Answer) → limit < 2 ^ 64 → IsTable table → Sound s (row_of table) limit → IsJudged s (row_of table) limit q p answer → IsKept s (row_of table) limit q p answer
+kept s table limit q p answer fits good sound judged = λ checked e.
+    keep s (row_of table) limit q p checked (within_ample limit fits) (eight_terms table good) sound (subst (λ (a : Answer). IsJudged s (row_of table) limit q p a) e judged)

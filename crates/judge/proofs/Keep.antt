@@ -4,57 +4,32 @@ use Rattle.std.specs.Prelude.{◌⊎◌, slice_get}
 use Rattle.std.specs.declared.option.Option.{Option}
 use Rattle.std.specs.declared.option.Option.TheVariants.{Some, None}
 use Rattle.std.specs.Option.{option_map}
-use Rattle.std.specs.Ordering.{nat_cmp, eq_by_cmp}
-use Rattle.std.specs.Cmp.{nat_cmp_total}
-use Rattle.std.specs.FinMap.{get-insert}
 use Rattle.loda_syntax.specs.Programs.{Text}
 use Rattle.loda_semantics.specs.declared.kinds.FaultKind.TheVariants.{Missing}
-use Rattle.loda_semantics.specs.Exec.{Outcome, value, fault, Calls, none, call, Library, run_name, run_deep}
-use Rattle.loda_semantics.proofs.Laws.{more_deep, fewer_deep, used_within}
-use Rattle.loda_semantics.proofs.Keeps.{AllTrace, Cheaper, keeps_deep}
+use Rattle.loda_semantics.specs.Exec.{Outcome, value, fault, Calls, Library, run_name, run_deep}
+use Rattle.loda_semantics.proofs.Laws.{used_within}
+use Rattle.loda_semantics.proofs.Keeps.{Cheaper, keeps_deep}
 use Rattle.program_store.specs.declared.published.Published.{Published}
-use Rattle.program_store.specs.Store.{Store, published_at, programs_of, with_program, checked_at, checked_in, put_in}
+use Rattle.program_store.specs.Store.{Store, published_at, programs_of, with_program, checked_at, checked_in, put_in, after, IsPublished}
 use Rattle.program_store.specs.Graph.{NoCycle}
-use Rattle.seq_calls.specs.Demand.{InTrace, ample, InDem, IsReliedOn}
-use Rattle.judge.specs.Passed.{Terms, outcome, steps_in, Gives, PassesBelow}
+use Rattle.seq_calls.specs.Demand.{ample, InDem, IsReliedOn}
+use Rattle.seq_calls.specs.Values.{outcome, Gives, KeepsValue}
+use Rattle.seq_calls.specs.Frames.{steps_of}
+use Rattle.seq_calls.proofs.Values.{gives_value, gives_this, gives_same}
+use Rattle.seq_calls.specs.Runs.{HasRun}
+use Rattle.seq_calls.proofs.Relied.{is_checked}
+use Rattle.seq_calls.proofs.Bounded.{with_steps}
+use Rattle.seq_calls.proofs.Stay.{all_traced}
+use Rattle.program_store.proofs.Puts.{put_here, put_elsewhere}
+use Rattle.judge.specs.Passed.{Terms, PassesBelow}
 use Rattle.judge.specs.Sound.{Sound, IsEntrySound}
-use Rattle.judge.specs.Judged.{after, IsPublished, Checks, Passes, NoDearer}
-use Rattle.judge.specs.Kept.{KeepsValue, LosesNothing, HasEight, Keeps}
-use Rattle.judge.proofs.Values.{decide, gives_value, gives_this, gives_same, true_unless, agree_gives, term_at, place_within}
-use Rattle.judge.proofs.Demanded.{Runs, run_of, is_checked, demanded_runs, relied_runs}
+use Rattle.judge.specs.Judged.{Checks, Passes, NoDearer}
+use Rattle.judge.specs.Kept.{LosesNothing, HasEight, Keeps}
+use Rattle.judge.proofs.Values.{decide, true_unless, agree_gives, term_at, place_within}
+use Rattle.judge.proofs.Demanded.{run_of, demanded_runs, relied_runs}
 use Rattle.judge.proofs.NewCycles.{no_new_cycle}
 
--- ---- runs of one library with other steps
-
--- a value with n steps is a value with each m that its steps fit in
-with_steps : (lib : Library) (q : ℕ) (x v : ℤ) (n m used : ℕ) (c : Calls) → run_name lib q x n ≡ (value v used, c) → used ≤ m → run_name lib q x m ≡ (value v used, c)
-with_steps lib q x v n m used c h le = by_order (decide_le n m)
-  where
-    decide_le : (a b : ℕ) → (a ≤ b) ⊎ (b ≤ a)
-    decide_le a b = grind arith
-
-    by_order : (n ≤ m) ⊎ (m ≤ n) → run_name lib q x m ≡ (value v used, c)
-    by_order (inl l) = more_deep lib (m - n) (suc n) (suc m) (lib q) x n m v used c (omega arith) (omega arith) h
-    by_order (inr l) = fewer_deep lib (n - m) (suc n) (suc m) (lib q) x n m v used c (omega arith) le (omega arith) h
-
-all_traced : (P : ℕ → ℤ → Type 0) (c : Calls) → ((r : ℕ) (y : ℤ) → InTrace r y c → P r y) → AllTrace P c
-all_traced P none h = tt
-all_traced P (call q x o inner rest) h =
-    (h q x (inl (refl, refl)), all_traced P inner (λ r y t. h r y (inr (inl t))), all_traced P rest (λ r y t. h r y (inr (inr t))))
-
 -- ---- the store with the program put in
-
-get_put : (s : Store) (q : ℕ) (p : Text) (k n : ℕ) → published_at (put_in s q p k) n ≡ cond (eq_by_cmp nat_cmp n q) (Some (record { program = p; checked = k })) (published_at s n)
-get_put s q p k n = get-insert nat_cmp_total s q (record { program = p; checked = k }) n
-
-test_is : (n q : ℕ) → eq_by_cmp nat_cmp n q ≡ eqb n q
-test_is n q = grind arith
-
-pub put_here : (s : Store) (q : ℕ) (p : Text) (k : ℕ) → published_at (put_in s q p k) q ≡ Some (record { program = p; checked = k })
-put_here s q p k = get_put s q p k q ∙ ap (λ b. cond b (Some (record { program = p; checked = k })) (published_at s q)) (test_is q q ∙ (let e : eqb q q ≡ true = grind arith in e))
-
-pub put_elsewhere : (s : Store) (q : ℕ) (p : Text) (k r : ℕ) → r ≢ q → published_at (put_in s q p k) r ≡ published_at s r
-put_elsewhere s q p k r other = get_put s q p k r ∙ ap (λ b. cond b (Some (record { program = p; checked = k })) (published_at s r)) (test_is r q ∙ (let e : eqb r q ≡ false = grind arith in e))
 
 with_here : (lib : Library) (q : ℕ) (p : Text) → with_program lib q p q ≡ Some p
 with_here lib q p = ap (λ b. cond b (Some p) (lib q)) (let e : eqb q q ≡ true = grind arith in e)
@@ -119,7 +94,7 @@ module _ (s : Store) (terms : Terms) (limit q : ℕ) (p : Text) (checked : ℕ) 
       by_case (inr cut) = cut.0.3
 
   -- the proposed program has the old value at an argument that is relied on
-  same_value : (x : ℤ) → IsReliedOn s q x → IsPublished s q → (ran : Runs (programs_of s) limit q x) → Gives (outcome (after s q p) q x limit) ran.value_of
+  same_value : (x : ℤ) → IsReliedOn s q x → IsPublished s q → (ran : HasRun (programs_of s) limit q x) → Gives (outcome (after s q p) q x limit) ran.value_of
   same_value x (inr d) there ran =
       agree_gives (outcome (programs_of s) q x limit) (outcome (after s q p) q x limit) ran.value_of ran.used (ap (λ (z : Outcome × Calls). z.0) ran.is)
       (true_unless _ (λ f. judged.unbroken.unbroken there x (d, f)))
@@ -140,12 +115,12 @@ module _ (s : Store) (terms : Terms) (limit q : ℕ) (p : Text) (checked : ℕ) 
       passes_listed = judged.unbroken.passes.enters.listed
 
   -- and takes no more steps for it
-  own : (x : ℤ) → IsReliedOn s q x → (ran : Runs (programs_of s) limit q x) → (u2 : ℕ) × (outcome (after s q p) q x limit ≡ value ran.value_of u2) × (u2 ≤ ran.used)
+  own : (x : ℤ) → IsReliedOn s q x → (ran : HasRun (programs_of s) limit q x) → (u2 : ℕ) × (outcome (after s q p) q x limit ≡ value ran.value_of u2) × (u2 ≤ ran.used)
   own x relied ran =
       let there : IsPublished s q = has_program s q (published_at s q) x limit (suc limit) ran.value_of ran.used ran.calls refl ran.is in
       let g = gives_value (outcome (after s q p) q x limit) ran.value_of (same_value x relied there ran) in
       let old : outcome (programs_of s) q x limit ≡ value ran.value_of ran.used = ap (λ (z : Outcome × Calls). z.0) ran.is in
-      let cost : (ran.used < g.0) → ⊥ = λ l. judged.no_dearer there x (relied, subst (λ (o : Outcome). steps_in o < steps_in (outcome (after s q p) q x limit)) (sym old) (subst (λ (o : Outcome). ran.used < steps_in o) (sym g.1) l)) in
+      let cost : (ran.used < g.0) → ⊥ = λ l. judged.no_dearer there x (relied, subst (λ (o : Outcome). steps_of o < steps_of (outcome (after s q p) q x limit)) (sym old) (subst (λ (o : Outcome). ran.used < steps_of o) (sym g.1) l)) in
       (g.0, g.1, not_more ran.used g.0 cost)
 
   -- whenever the old program has a value at a demanded argument, so has the proposed one, with no more steps
@@ -166,32 +141,32 @@ module _ (s : Store) (terms : Terms) (limit q : ℕ) (p : Text) (checked : ℕ) 
   keeps_value : (r : ℕ) (x : ℤ) → IsReliedOn s r x → KeepsValue (programs_of s) (after s q p) limit r x
   keeps_value r x relied = by_name (decide r q)
     where
-      made : (ran : Runs (programs_of s) limit r x) (u2 : ℕ) → outcome (after s q p) r x limit ≡ value ran.value_of u2 → u2 ≤ ran.used → KeepsValue (programs_of s) (after s q p) limit r x
+      made : (ran : HasRun (programs_of s) limit r x) (u2 : ℕ) → outcome (after s q p) r x limit ≡ value ran.value_of u2 → u2 ≤ ran.used → KeepsValue (programs_of s) (after s q p) limit r x
       made ran u2 new le =
           let old : outcome (programs_of s) r x limit ≡ value ran.value_of ran.used = ap (λ (z : Outcome × Calls). z.0) ran.is in
           record {
             value = ran.value_of;
             was = gives_this _ _ ran.used old;
             now = gives_this _ _ u2 new;
-            no_dearer = (let a : steps_in (outcome (programs_of s) r x limit) ≡ ran.used = ap steps_in old in let b : steps_in (outcome (after s q p) r x limit) ≡ u2 = ap steps_in new in omega (arith, a, b, le));
+            no_dearer = (let a : steps_of (outcome (programs_of s) r x limit) ≡ ran.used = ap steps_of old in let b : steps_of (outcome (after s q p) r x limit) ≡ u2 = ap steps_of new in omega (arith, a, b, le));
           }
 
       by_name : (r ≡ q) ⊎ (r ≢ q) → KeepsValue (programs_of s) (after s q p) limit r x
       by_name (inl same) =
           let relied_q : IsReliedOn s q x = subst (λ (z : ℕ). IsReliedOn s z x) same relied in
           let ran = (relied_runs s terms limit sound fits r x relied).0 in
-          let ran_q : Runs (programs_of s) limit q x = subst (λ (z : ℕ). Runs (programs_of s) limit z x) same ran in
+          let ran_q : HasRun (programs_of s) limit q x = subst (λ (z : ℕ). HasRun (programs_of s) limit z x) same ran in
           let mine = own x relied_q ran_q in
           subst (λ (z : ℕ). KeepsValue (programs_of s) (after s q p) limit z x) (sym same) (made_q ran_q mine.0 mine.1 mine.2)
         where
-          made_q : (ran : Runs (programs_of s) limit q x) (u2 : ℕ) → outcome (after s q p) q x limit ≡ value ran.value_of u2 → u2 ≤ ran.used → KeepsValue (programs_of s) (after s q p) limit q x
+          made_q : (ran : HasRun (programs_of s) limit q x) (u2 : ℕ) → outcome (after s q p) q x limit ≡ value ran.value_of u2 → u2 ≤ ran.used → KeepsValue (programs_of s) (after s q p) limit q x
           made_q ran u2 new le =
               let old : outcome (programs_of s) q x limit ≡ value ran.value_of ran.used = ap (λ (z : Outcome × Calls). z.0) ran.is in
               record {
                 value = ran.value_of;
                 was = gives_this _ _ ran.used old;
                 now = gives_this _ _ u2 new;
-                no_dearer = (let a : steps_in (outcome (programs_of s) q x limit) ≡ ran.used = ap steps_in old in let b : steps_in (outcome (after s q p) q x limit) ≡ u2 = ap steps_in new in omega (arith, a, b, le));
+                no_dearer = (let a : steps_of (outcome (programs_of s) q x limit) ≡ ran.used = ap steps_of old in let b : steps_of (outcome (after s q p) q x limit) ≡ u2 = ap steps_of new in omega (arith, a, b, le));
               }
       by_name (inr other) =
           let both = relied_runs s terms limit sound fits r x relied in

@@ -11,14 +11,16 @@ use Rattle.program_store.specs.Store.{Store, published_at, programs_of, IsStore}
 use Rattle.program_store.specs.Graph.{NoCycle, OnCycle}
 use Rattle.seq_calls.specs.declared.outcomes.Outcome.{Outcome as Told}
 use Rattle.seq_calls.specs.Frames.{told}
+use Rattle.seq_calls.specs.Values.{outcome, same_int, gives, Gives}
+use Rattle.seq_calls.proofs.Values.{same_int-is, same_int-true}
 use Rattle.judge.specs.declared.answer.Got.{Got}
 use Rattle.judge.specs.declared.answer.Got.TheVariants as got
 use Rattle.judge.specs.declared.answer.Unsound.{Unsound}
 use Rattle.judge.specs.declared.answer.Unsound.TheVariants.{NoRow, Count, Unmet}
-use Rattle.judge.specs.Passed.{Terms, outcome, got_of, same_int, gives, Gives, PassesBelow, FailsFirst, IsPassed}
+use Rattle.judge.specs.Passed.{Terms, got_of, PassesBelow, FailsFirst, IsPassed}
 use Rattle.judge.specs.Misses.{got_told, IsFirstMiss, IsEntryFault}
 use Rattle.judge.specs.Sound.{IsEntrySound, SoundBelow, IsUnsound}
-use Rattle.judge.proofs.Values.{same_int-is, same_int-true, place_within}
+use Rattle.judge.proofs.Values.{place_within}
 
 -- ---- what was got
 

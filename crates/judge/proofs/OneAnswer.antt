@@ -4,16 +4,20 @@ use Rattle.std.specs.Prelude.{◌⊎◌, IsTrue, IsFalse, Contains}
 use Rattle.std.specs.declared.option.Option.TheVariants.{Some, None}
 use Rattle.loda_syntax.specs.Programs.{Text}
 use Rattle.loda_semantics.specs.Exec.{Outcome, Library}
-use Rattle.program_store.specs.Store.{Store, programs_of, checked_at}
+use Rattle.program_store.specs.Store.{Store, programs_of, checked_at, after, IsPublished}
 use Rattle.program_store.specs.Graph.{calls_of, Reaches}
+use Rattle.seq_calls.specs.Values.{outcome, gives, Gives}
+use Rattle.seq_calls.specs.Frames.{steps_of}
+use Rattle.seq_calls.specs.Demand.{LeastCaller}
+use Rattle.seq_calls.proofs.Values.{gives_value, gives_same}
 use Rattle.judge.specs.declared.answer.Got.{Got}
 use Rattle.judge.specs.declared.answer.Got.TheVariants as got
 use Rattle.judge.specs.declared.answer.Answer.{Answer}
 use Rattle.judge.specs.declared.answer.Answer.TheVariants.{Accepted, Unlisted, Cycle, WrongTerm, BrokenDependant, Costlier, NoGain}
-use Rattle.judge.specs.Passed.{Terms, outcome, got_of, steps_in, gives, Gives, PassesBelow, FailsFirst}
-use Rattle.judge.specs.Judged.{after, IsPublished, Checks, Breaks, CostsMore, LeastCaller, Gainless, Enters, Passes, Unbroken, NoDearer, IsJudged}
+use Rattle.judge.specs.Passed.{Terms, got_of, PassesBelow, FailsFirst}
+use Rattle.judge.specs.Judged.{Checks, Breaks, CostsMore, Gainless, Enters, Passes, Unbroken, NoDearer, IsJudged}
 use Rattle.judge.specs.One.{HasOneAnswer}
-use Rattle.judge.proofs.Values.{gives_value, gives_same, place_within}
+use Rattle.judge.proofs.Values.{place_within}
 use Rattle.judge.proofs.Firsts.{first-same, least-same, contains-here}
 
 -- ---- rows and terms
@@ -188,8 +192,8 @@ module _ (s : Store) (terms : Terms) (limit q : ℕ) (p : Text) where
       ∙ ap (λ (z : ℤ). BrokenDependant y d j z g) values ∙ ap (λ (z : Got). BrokenDependant y d j w z) gots
   same_rank (Costlier x m n) (Costlier y k l) e h i =
       let at : x ≡ y = least-same (CostsMore s limit q p) x y h.4 i.4 in
-      let was : m ≡ k = h.5 ∙ ap (λ (z : ℤ). steps_in (outcome (programs_of s) q z limit)) at ∙ sym i.5 in
-      let now : n ≡ l = h.6 ∙ ap (λ (z : ℤ). steps_in (outcome (after s q p) q z limit)) at ∙ sym i.6 in
+      let was : m ≡ k = h.5 ∙ ap (λ (z : ℤ). steps_of (outcome (programs_of s) q z limit)) at ∙ sym i.5 in
+      let now : n ≡ l = h.6 ∙ ap (λ (z : ℤ). steps_of (outcome (after s q p) q z limit)) at ∙ sym i.6 in
       ap (λ (z : ℤ). Costlier z m n) at ∙ ap (λ (z : ℕ). Costlier y z n) was ∙ ap (λ (z : ℕ). Costlier y k z) now
   same_rank NoGain NoGain e h k = refl
   same_rank (Accepted c) (Accepted d) e h k =

@@ -5,10 +5,11 @@ use Rattle.std.specs.declared.option.Option.TheVariants.{Some, None}
 use Rattle.program_store.specs.declared.published.Published.{Published}
 use Rattle.program_store.specs.Store.{Store, published_at, programs_of}
 use Rattle.program_store.specs.Graph.{NoCycle}
+use Rattle.seq_calls.specs.Values.{outcome}
 use Rattle.judge.specs.declared.answer.Got.{Got}
 use Rattle.judge.specs.declared.answer.Unsound.{Unsound}
 use Rattle.judge.specs.declared.answer.Unsound.TheVariants.{Cycle, NoRow, Count, Unmet}
-use Rattle.judge.specs.Passed.{Terms, outcome, got_of, FailsFirst}
+use Rattle.judge.specs.Passed.{Terms, got_of, FailsFirst}
 use Rattle.judge.specs.Sound.{Sound, IsEntrySound, SoundBelow, IsUnsound}
 use Rattle.judge.specs.One.{HasOneReason}
 use Rattle.judge.proofs.OneAnswer.{same_row, fails_same, not_below}

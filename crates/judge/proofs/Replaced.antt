@@ -1,29 +1,32 @@
 -- The answer to a proposal for a published name.
 use Rattle.std.proofs.Common.{ℕ, ◌<◌, ◌≤◌, ◌≡◌, refl, sym, ap, subst, ◌∙◌, arith, ℤ, pos, inl, inr, List, length, true, false}
-use Rattle.std.specs.Prelude.{◌⊎◌, ◌<ℤ◌, slice_get, IsTrue, IsFalse}
+use Rattle.std.specs.Prelude.{◌⊎◌, ◌^◌, ◌<ℤ◌, slice_get, IsTrue, IsFalse}
 use Rattle.std.specs.declared.option.Option.TheVariants.{Some}
 use Rattle.std.proofs.lemmas.Int.{ints}
 use Rattle.loda_syntax.specs.Programs.{Text, instrs}
 use Rattle.loda_semantics.specs.Exec.{Outcome, value, fault, out, Calls}
 use Rattle.program_store.specs.declared.published.Published.{Published}
-use Rattle.program_store.specs.Store.{Store, published_at, programs_of, checked_at, checked_in}
+use Rattle.program_store.specs.Store.{Store, published_at, programs_of, checked_at, checked_in, after}
 use Rattle.seq_calls.specs.declared.outcomes.Outcome.TheVariants as told_as
-use Rattle.seq_calls.specs.Frames.{told}
+use Rattle.seq_calls.specs.Frames.{told, steps_of}
 use Rattle.seq_calls.specs.Demand.{Demands, IsReliedOn}
+use Rattle.seq_calls.specs.Values.{outcome, Gives, same_int}
+use Rattle.seq_calls.proofs.Values.{gives_value, same_int-is, same_int-true}
+use Rattle.seq_calls.proofs.Relied.{is_checked}
 use Rattle.judge.specs.declared.answer.Answer.{Answer}
 use Rattle.judge.specs.declared.answer.Answer.TheVariants.{Accepted, NoGain}
 use Rattle.judge.specs.declared.comparing.BothRuns.{BothRuns}
 use Rattle.judge.specs.declared.comparing.CheckedRun.{CheckedRun}
 use Rattle.judge.specs.declared.comparing.Changed.{Changed}
-use Rattle.judge.specs.Passed.{Terms, outcome, steps_in, Gives, same_int, agree, PassesBelow}
+use Rattle.judge.specs.Passed.{Terms, agree, PassesBelow}
 use Rattle.judge.specs.Misses.{got_told}
 use Rattle.judge.specs.Sound.{Sound}
-use Rattle.judge.specs.Judged.{after, Checks, Breaks, CostsMore, Gainless, Passes, Unbroken, NoDearer, IsJudged}
+use Rattle.judge.specs.Judged.{Checks, Breaks, CostsMore, Gainless, Passes, Unbroken, NoDearer, IsJudged}
 use Rattle.judge.specs.Changes.{runs_at, SameValue, OtherValue, MoreSteps, SameSteps, Relies, AtOrBefore, IsLeastChange, IsSoundStore}
 use Rattle.judge.specs.Replaced.{HasValue, IsBroken, IsCostlier, BringsNothing}
-use Rattle.judge.proofs.Values.{gives_value, same_int-is, same_int-true, true_unless, term_at}
+use Rattle.judge.proofs.Values.{true_unless, term_at}
 use Rattle.judge.proofs.Misses.{got_same, false_unless}
-use Rattle.judge.proofs.Demanded.{is_checked, relied_runs}
+use Rattle.judge.proofs.Demanded.{relied_runs}
 use Rattle.judge.proofs.Keep.{grows}
 use Rattle.judge.proofs.OneAnswer.{same_row}
 use Rattle.judge.proofs.Fresh.{within_ample}
@@ -53,28 +56,28 @@ breaks_other a b h = λ same. let t : IsTrue (agree a b) = same_agree a b same i
 other_breaks : (a b : Outcome) → OtherValue (both a b) → IsFalse (agree a b)
 other_breaks a b h = false_unless (agree a b) (λ t. h (agree_same a b t))
 
-costs_more : (a b : Outcome) → SameValue (both a b) → steps_in a < steps_in b → MoreSteps (both a b)
+costs_more : (a b : Outcome) → SameValue (both a b) → steps_of a < steps_of b → MoreSteps (both a b)
 costs_more (value v n) (value w m) same lt = lt
 costs_more (value v n) (fault k m) same lt = absurd same
 costs_more (value v n) (out m) same lt = absurd same
 costs_more (fault k n) b same lt = absurd same
 costs_more (out n) b same lt = absurd same
 
-more_costs : (a b : Outcome) → MoreSteps (both a b) → steps_in a < steps_in b
+more_costs : (a b : Outcome) → MoreSteps (both a b) → steps_of a < steps_of b
 more_costs (value v n) (value w m) lt = lt
 more_costs (value v n) (fault k m) h = absurd h
 more_costs (value v n) (out m) h = absurd h
 more_costs (fault k n) b h = absurd h
 more_costs (out n) b h = absurd h
 
-steps_same : (a b : Outcome) → SameSteps (both a b) → steps_in a ≡ steps_in b
+steps_same : (a b : Outcome) → SameSteps (both a b) → steps_of a ≡ steps_of b
 steps_same (value v n) (value w m) e = e
 steps_same (value v n) (fault k m) h = absurd h
 steps_same (value v n) (out m) h = absurd h
 steps_same (fault k n) b h = absurd h
 steps_same (out n) b h = absurd h
 
-same_steps : (a b : Outcome) → SameValue (both a b) → steps_in a ≡ steps_in b → SameSteps (both a b)
+same_steps : (a b : Outcome) → SameValue (both a b) → steps_of a ≡ steps_of b → SameSteps (both a b)
 same_steps (value v n) (value w m) same e = e
 same_steps (value v n) (fault k m) same e = absurd same
 same_steps (value v n) (out m) same e = absurd same
@@ -85,7 +88,7 @@ same_steps (out n) b same e = absurd same
 same_of : (a b : Outcome) (t : ℤ) (n m : ℕ) → a ≡ value t n → b ≡ value t m → SameValue (both a b)
 same_of a b t n m e f = subst (λ (z : Outcome). SameValue (both z b)) (sym e) (subst (λ (z : Outcome). SameValue (both (value t n) z)) (sym f) refl)
 
-told_steps : (o : Outcome) (v : ℤ) (n : ℕ) → told o ≡ told_as.Value v n → n ≡ steps_in o
+told_steps : (o : Outcome) (v : ℤ) (n : ℕ) → told o ≡ told_as.Value v n → n ≡ steps_of o
 told_steps (value w m) v n e = let h : told_as.Value w m ≡ told_as.Value v n = e in let f : m ≡ n = cc in sym f
 told_steps (fault k m) v n e = absurd (let h : told_as.Fault k m ≡ told_as.Value v n = e in cc)
 told_steps (out m) v n e = absurd (let h : told_as.OutOfSteps ≡ told_as.Value v n = e in cc)
@@ -113,9 +116,9 @@ module _ (s : Store) (q : ℕ) where
   someone x (inr d) = (record { name = d.0; index = d.1 }, inl d.2)
 
 -- what changes at an argument that is relied on had a value
-pub had_value : (s : Store) (limit q : ℕ) (p : Text) (Kind : BothRuns → Type 0) (c : Changed) → limit ≤ 10000000 → IsSoundStore s limit → IsLeastChange Kind (runs_at s limit q p) (Relies s q) c → HasValue c.runs.with_old
-had_value s limit q p Kind c few sound h =
-    let ran = (relied_runs s sound.0 limit sound.1 (within_ample limit few) q c.at (relied_on s q c.by c.at h.relied)).0 in
+pub had_value : (s : Store) (limit q : ℕ) (p : Text) (Kind : BothRuns → Type 0) (c : Changed) → limit < 2 ^ 64 → IsSoundStore s limit → IsLeastChange Kind (runs_at s limit q p) (Relies s q) c → HasValue c.runs.with_old
+had_value s limit q p Kind c fits sound h =
+    let ran = (relied_runs s sound.0 limit sound.1 (within_ample limit fits) q c.at (relied_on s q c.by c.at h.relied)).0 in
     let told_was : c.runs.with_old ≡ told (outcome (programs_of s) q c.at limit) = ap (λ (r : BothRuns). r.with_old) h.runs_are in
     let old : outcome (programs_of s) q c.at limit ≡ value ran.value_of ran.used = ap (λ (z : Outcome × Calls). z.0) ran.is in
     (ran.value_of, ran.used, told_was ∙ ap told old)
@@ -234,7 +237,7 @@ module _ (s : Store) (limit q : ℕ) (p : Text) (checked : ℕ) (e : Published) 
       pub judged_no_gain : BringsNothing s limit q p e checked → IsJudged s terms limit q p NoGain
       judged_no_gain h = (row, checked, no_dearer, (e, there), (h.count ∙ sym count_here, same, longer))
         where
-          same : (i : ℕ) → i < checked_at s q → steps_in (outcome (programs_of s) q (pos i) limit) ≡ steps_in (outcome (after s q p) q (pos i) limit)
+          same : (i : ℕ) → i < checked_at s q → steps_of (outcome (programs_of s) q (pos i) limit) ≡ steps_of (outcome (after s q p) q (pos i) limit)
           same i lt = steps_same (outcome (programs_of s) q (pos i) limit) (outcome (after s q p) q (pos i) limit) (h.steps i (let g = h.count in let k = count_here in omega (arith, lt, g, k)))
 
           longer : (f : Published) → published_at s q ≡ Some f → length (instrs f.program) ≤ length (instrs p)

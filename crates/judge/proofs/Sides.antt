@@ -9,8 +9,8 @@ use Rattle.program_store.specs.Store.{Store, programs_of, with_program}
 use Rattle.seq_calls.specs.declared.outcomes.Outcome.{Outcome as Told}
 use Rattle.seq_calls.specs.declared.outcomes.NodeRun.{NodeRun}
 use Rattle.seq_calls.specs.Frames.{told, nodes_of}
+use Rattle.seq_calls.specs.Values.{outcome}
 use Rattle.judge.specs.declared.comparing.BothRuns.{BothRuns}
-use Rattle.judge.specs.Passed.{outcome}
 use Rattle.judge.specs.Changes.{runs_at, SameSteps}
 use Rattle.judge.specs.Replaced.{TakesSameSteps, BringsNothing}
 use Rattle.program_store.specs.declared.published.Published.{Published}

@@ -1,6 +1,6 @@
 -- The checked runs in their order: what relies on an argument before one of them, and before the next.
 use Rattle.std.proofs.Common.{ℕ, ◌+◌, ◌<◌, ◌≤◌, ◌≡◌, refl, sym, ap, subst, ◌∙◌, arith, ℤ, pos, inl, inr, List, length, take, get_or}
-use Rattle.std.specs.Prelude.{◌⊎◌}
+use Rattle.std.specs.Prelude.{◌⊎◌, ◌^◌}
 use Rattle.std.proofs.lemmas.List.{take_all}
 use Rattle.std.specs.declared.option.Option.{Option}
 use Rattle.std.specs.declared.option.Option.TheVariants.{Some, None}
@@ -9,11 +9,11 @@ use Rattle.program_store.specs.declared.published.Published.{Published}
 use Rattle.program_store.specs.Store.{Store, IsStore, published_at, programs_of, checked_at, checked_in}
 use Rattle.seq_calls.specs.declared.outcomes.NodeRun.{NodeRun}
 use Rattle.seq_calls.specs.Frames.{nodes_of}
+use Rattle.seq_calls.proofs.Relied.{is_checked}
 use Rattle.judge.specs.declared.comparing.BothRuns.{BothRuns}
 use Rattle.judge.specs.declared.comparing.CheckedRun.{CheckedRun}
 use Rattle.judge.specs.declared.comparing.Changes.{Changes}
 use Rattle.judge.specs.Changes.{OtherValue, MoreSteps, Relies, Before, AtOrBefore, ReliesBefore, ReliesUpTo, IsAmong, IsNext, AreChanges, IsSoundStore, MayRely}
-use Rattle.judge.proofs.Demanded.{is_checked}
 use Rattle.judge.proofs.Fresh.{within_ample}
 use Rattle.judge.proofs.Frames.{among_next, next_old, next_new, relies_of, among_relies}
 use Rattle.judge.proofs.Traces.{relies_may}
@@ -101,10 +101,10 @@ module _ (s : Store) (q : ℕ) where
 
     -- ---- one more checked run
 
-    pub run_done : (limit : ℕ) (by : CheckedRun) (nodes : List NodeRun) (c : Changes) → limit ≤ 10000000 → IsSoundStore s limit → by.index < checked_at s by.name
+    pub run_done : (limit : ℕ) (by : CheckedRun) (nodes : List NodeRun) (c : Changes) → limit < 2 ^ 64 → IsSoundStore s limit → by.index < checked_at s by.name
         → nodes ≡ nodes_of by.name (pos by.index) (run_name (programs_of s) by.name (pos by.index) limit)
         → AreChanges runs (ReliesUpTo s q by nodes) c → AreChanges runs (ReliesBefore s q (record { name = by.name; index = by.index + 1 })) c
-    run_done limit by nodes c few sound checked is h = changes_same runs (ReliesUpTo s q by nodes) (ReliesBefore s q (run by.name (by.index + 1))) to back c h
+    run_done limit by nodes c fits sound checked is h = changes_same runs (ReliesUpTo s q by nodes) (ReliesBefore s q (run by.name (by.index + 1))) to back c h
       where
         next_before : (r : CheckedRun) → Before r by → Before r (run by.name (by.index + 1))
         next_before r (inl l) = inl l
@@ -113,7 +113,7 @@ module _ (s : Store) (q : ℕ) where
         to : (r : CheckedRun) (x : ℤ) → ReliesUpTo s q by nodes r x → ReliesBefore s q (run by.name (by.index + 1)) r x
         to r x (inl k) = (k.0, next_before r k.1)
         to r x (inr k) =
-            let there : Relies s q by x = relies_of s sound.0 limit sound.1 (within_ample limit few) q x by checked (subst (λ (l : List NodeRun). IsAmong q x l) is k.1) in
+            let there : Relies s q by x = relies_of s sound.0 limit sound.1 (within_ample limit fits) q x by checked (subst (λ (l : List NodeRun). IsAmong q x l) is k.1) in
             (subst (λ (z : CheckedRun). Relies s q z x) (sym k.0) there, subst (λ (z : CheckedRun). Before z (run by.name (by.index + 1))) (sym k.0) (inr (refl, omega arith)))
 
         same_run : (r : CheckedRun) → r.name ≡ by.name → r.index ≡ by.index → r ≡ by
@@ -123,7 +123,7 @@ module _ (s : Store) (q : ℕ) where
         by_index r x k e (inl l) = inl (k, inr (e, l))
         by_index r x k e (inr f) =
             let same = same_run r e f in
-            inr (same, subst (λ (l : List NodeRun). IsAmong q x l) (sym is) (among_relies s sound.0 limit sound.1 (within_ample limit few) q x by checked (subst (λ (z : CheckedRun). Relies s q z x) same k)))
+            inr (same, subst (λ (l : List NodeRun). IsAmong q x l) (sym is) (among_relies s sound.0 limit sound.1 (within_ample limit fits) q x by checked (subst (λ (z : CheckedRun). Relies s q z x) same k)))
 
         back : (r : CheckedRun) (x : ℤ) → ReliesBefore s q (run by.name (by.index + 1)) r x → ReliesUpTo s q by nodes r x
         back r x k = by_case k.1

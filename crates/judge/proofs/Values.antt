@@ -1,10 +1,11 @@
 -- Values, terms and outcomes.
-use Rattle.std.proofs.Common.{ℕ, zero, suc, ◌<◌, ◌≡◌, ◌≢◌, refl, sym, ap, subst, arith, ℤ, pos, negsuc, Bool, true, false, eqb, length, List, [], ◌∷◌}
+use Rattle.std.proofs.Common.{ℕ, zero, suc, ◌<◌, ◌≡◌, ◌≢◌, refl, sym, subst, arith, ℤ, pos, Bool, true, false, eqb, length, List, [], ◌∷◌}
 use Rattle.std.specs.Prelude.{IsTrue, IsFalse, slice_get, ◌⊎◌}
 use Rattle.std.proofs.Common.{inl, inr}
 use Rattle.std.specs.declared.option.Option.TheVariants.{Some}
-use Rattle.loda_semantics.specs.Exec.{Outcome, value, fault, out}
-use Rattle.judge.specs.Passed.{same_int, Gives, agree}
+use Rattle.loda_semantics.specs.Exec.{Outcome, value}
+use Rattle.seq_calls.specs.Values.{Gives}
+use Rattle.judge.specs.Passed.{agree}
 
 pub decide : (a b : ℕ) → (a ≡ b) ⊎ (a ≢ b)
 decide a b = by_test (eqb a b) refl
@@ -12,35 +13,6 @@ decide a b = by_test (eqb a b) refl
     by_test : (t : Bool) → eqb a b ≡ t → (a ≡ b) ⊎ (a ≢ b)
     by_test true e = inl (grind arith)
     by_test false e = inr (grind arith)
-
-eqb-is : (a b : ℕ) → IsTrue (eqb a b) → a ≡ b
-eqb-is a b h = grind arith
-
-eqb-true : (a : ℕ) → IsTrue (eqb a a)
-eqb-true a = grind arith
-
-pub same_int-is : (a b : ℤ) → IsTrue (same_int a b) → a ≡ b
-same_int-is (pos a) (pos b) h = ap pos (eqb-is a b h)
-same_int-is (negsuc a) (negsuc b) h = ap negsuc (eqb-is a b h)
-same_int-is (pos a) (negsuc b) h = absurd (let e : false ≡ true = h in cc)
-same_int-is (negsuc a) (pos b) h = absurd (let e : false ≡ true = h in cc)
-
-pub same_int-true : (a : ℤ) → IsTrue (same_int a a)
-same_int-true (pos a) = eqb-true a
-same_int-true (negsuc a) = eqb-true a
-
--- what gives a number is that value
-pub gives_value : (o : Outcome) (t : ℤ) → Gives o t → (used : ℕ) × (o ≡ value t used)
-gives_value (value w n) t g = (n, ap (λ z. value z n) (same_int-is w t g))
-gives_value (fault k n) t g = absurd (let e : false ≡ true = g in cc)
-gives_value (out n) t g = absurd (let e : false ≡ true = g in cc)
-
-pub gives_this : (o : Outcome) (t : ℤ) (used : ℕ) → o ≡ value t used → Gives o t
-gives_this o t used e = subst (λ z. Gives z t) (sym e) (same_int-true t)
-
--- an outcome that is the value v gives no other number
-pub gives_same : (o : Outcome) (v t : ℤ) (used : ℕ) → o ≡ value v used → Gives o t → t ≡ v
-gives_same o v t used e g = sym (same_int-is v t (subst (λ z. Gives z t) e g))
 
 pub true_unless : (b : Bool) → (IsFalse b → ⊥) → IsTrue b
 true_unless true h = refl

@@ -4,20 +4,20 @@ use Rattle.std.specs.declared.option.Option.{Option}
 use Rattle.std.specs.declared.option.Option.TheVariants.{Some, None}
 use Rattle.loda_syntax.specs.Programs.{Text}
 use Rattle.program_store.specs.declared.published.Proposal.{Proposal}
-use Rattle.program_store.specs.Store.{Store, programs_of, checked_at}
+use Rattle.program_store.specs.Store.{Store, programs_of, checked_at, after}
 use Rattle.call_graph.specs.Closure.{ReachesByCall}
 use Rattle.seq_calls.specs.declared.outcomes.Outcome.{Outcome as Told}
 use Rattle.seq_calls.specs.declared.outcomes.Outcome.TheVariants as told_as
 use Rattle.seq_calls.specs.declared.outcomes.NodeRun.{NodeRun}
 use Rattle.seq_calls.specs.Frames.{told}
 use Rattle.seq_calls.specs.Demand.{Demands}
+use Rattle.seq_calls.specs.Values.{outcome}
 use Rattle.judge.specs.declared.comparing.BothRuns.{BothRuns}
 use Rattle.judge.specs.declared.comparing.CheckedRun.{CheckedRun}
 use Rattle.judge.specs.declared.comparing.Changed.{Changed}
 use Rattle.judge.specs.declared.comparing.Changes.{Changes}
-use Rattle.judge.specs.Passed.{Terms, outcome}
+use Rattle.judge.specs.Passed.{Terms}
 use Rattle.judge.specs.Sound.{Sound}
-use Rattle.judge.specs.Judged.{after}
 
 -- ---- one argument
 
@@ -60,6 +60,7 @@ MayRely s q name = (name ≡ q) ⊎ ReachesByCall (programs_of s) name q
 abbrev pub Before : CheckedRun → CheckedRun → Type 0
 Before a b = (a.name < b.name) ⊎ ((a.name ≡ b.name) × (a.index < b.index))
 
+-- the first comes before the second, or is the same
 abbrev pub AtOrBefore : CheckedRun → CheckedRun → Type 0
 AtOrBefore a b = (a.name < b.name) ⊎ ((a.name ≡ b.name) × (a.index ≤ b.index))
 
@@ -67,10 +68,11 @@ AtOrBefore a b = (a.name < b.name) ⊎ ((a.name ≡ b.name) × (a.index ≤ b.in
 abbrev pub ReliesBefore : Store → ℕ → CheckedRun → CheckedRun → ℤ → Type 0
 ReliesBefore s q by r x = Relies s q r x × Before r by
 
--- the first checked run of a name, and the one after a checked run
+-- the first checked run of a name
 abbrev pub first_run : ℕ → CheckedRun
 first_run name = record { name = name; index = 0 }
 
+-- the checked run behind this one
 abbrev pub next_run : CheckedRun → CheckedRun
 next_run by = record { name = by.name; index = by.index + 1 }
 

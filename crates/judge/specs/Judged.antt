@@ -4,24 +4,19 @@ use Rattle.std.specs.declared.option.Option.TheVariants.{Some, None}
 use Rattle.loda_syntax.specs.Programs.{Text, instrs}
 use Rattle.loda_semantics.specs.Exec.{Library}
 use Rattle.program_store.specs.declared.published.Published.{Published}
-use Rattle.program_store.specs.Store.{Store, published_at, programs_of, with_program, checked_at}
+use Rattle.program_store.specs.Store.{Store, published_at, programs_of, checked_at, after, IsPublished}
 use Rattle.program_store.specs.Graph.{calls_of, Reaches, FirstWith}
-use Rattle.seq_calls.specs.Demand.{Demands, InDem, IsReliedOn}
+use Rattle.seq_calls.specs.Demand.{InDem, IsReliedOn, LeastCaller}
+use Rattle.seq_calls.specs.Values.{outcome, Gives}
+use Rattle.seq_calls.specs.Frames.{steps_of}
 use Rattle.judge.specs.declared.answer.Got.TheVariants as got
 use Rattle.judge.specs.declared.answer.Answer.{Answer}
 use Rattle.judge.specs.declared.answer.Answer.TheVariants.{Accepted, Unlisted, Cycle, WrongTerm, BrokenDependant, Costlier, NoGain}
-use Rattle.judge.specs.Passed.{Terms, outcome, steps_in, got_of, Gives, agree, PassesBelow, FailsFirst}
+use Rattle.judge.specs.Passed.{Terms, got_of, agree, PassesBelow, FailsFirst}
 
 -- P holds at x and at nothing less
 abbrev pub LeastWith : (ℤ → Type 0) → ℤ → Type 0
 LeastWith P x = P x × ((y : ℤ) → y <ℤ x → P y → ⊥)
-
--- the programs of the store with the proposed one in its place
-abbrev pub after : Store → ℕ → Text → Library
-after s q p = with_program (programs_of s) q p
-
-abbrev pub IsPublished : Store → ℕ → Type 0
-IsPublished s q = (e : Published) × (published_at s q ≡ Some e)
 
 -- The new checked count: all usable terms are given, or the steps run out past the old count and eight.
 abbrev pub Checks : Library → List ℤ → ℕ → ℕ → ℕ → ℕ → Type 0
@@ -33,22 +28,16 @@ Checks lib row q limit old checked =
 abbrev pub Breaks : Store → ℕ → ℕ → Text → ℤ → Type 0
 Breaks s limit q p x = InDem s q x × IsFalse (agree (outcome (programs_of s) q x limit) (outcome (after s q p) q x limit))
 
--- the least pair of a published name and a checked argument whose run demands x
-abbrev pub LeastCaller : Store → ℕ → ℤ → ℕ → ℕ → Type 0
-LeastCaller s q x caller index =
-    Demands s caller index q x
-    × ((c i : ℕ) → Demands s c i q x → (caller < c) ⊎ ((caller ≡ c) × (index ≤ i)))
-
 -- an argument that is relied on takes more steps
 abbrev pub CostsMore : Store → ℕ → ℕ → Text → ℤ → Type 0
 CostsMore s limit q p x =
-    IsReliedOn s q x × (steps_in (outcome (programs_of s) q x limit) < steps_in (outcome (after s q p) q x limit))
+    IsReliedOn s q x × (steps_of (outcome (programs_of s) q x limit) < steps_of (outcome (after s q p) q x limit))
 
 -- no more terms are checked, no checked argument is cheaper, and the text is no shorter
 abbrev pub Gainless : Store → ℕ → ℕ → Text → ℕ → Type 0
 Gainless s limit q p checked =
     (checked ≡ checked_at s q)
-    × ((i : ℕ) → i < checked_at s q → steps_in (outcome (programs_of s) q (pos i) limit) ≡ steps_in (outcome (after s q p) q (pos i) limit))
+    × ((i : ℕ) → i < checked_at s q → steps_of (outcome (programs_of s) q (pos i) limit) ≡ steps_of (outcome (after s q p) q (pos i) limit))
     × ((e : Published) → published_at s q ≡ Some e → length (instrs e.program) ≤ length (instrs p))
 
 -- it has a row and closes no cycle
@@ -84,7 +73,7 @@ IsJudged s terms limit q p (BrokenDependant at caller index was now) =
     × LeastCaller s q at caller index × Gives (outcome (programs_of s) q at limit) was × (now ≡ got_of (outcome (after s q p) q at limit))
 IsJudged s terms limit q p (Costlier at was now) =
     (row : List ℤ) × (checked : ℕ) × Unbroken s terms limit q p row checked × IsPublished s q × LeastWith (CostsMore s limit q p) at
-    × (was ≡ steps_in (outcome (programs_of s) q at limit)) × (now ≡ steps_in (outcome (after s q p) q at limit))
+    × (was ≡ steps_of (outcome (programs_of s) q at limit)) × (now ≡ steps_of (outcome (after s q p) q at limit))
 IsJudged s terms limit q p NoGain =
     (row : List ℤ) × (checked : ℕ) × NoDearer s terms limit q p row checked × IsPublished s q × Gainless s limit q p checked
 IsJudged s terms limit q p (Accepted checked) =

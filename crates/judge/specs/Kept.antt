@@ -1,22 +1,15 @@
 -- What a replacement may not take from anybody.
 use Rattle.std.specs.Prelude.{ℕ, ◌≤◌, ◌≡◌, ℤ, List, length}
 use Rattle.std.specs.declared.option.Option.TheVariants.{Some}
-use Rattle.loda_semantics.specs.Exec.{Library}
 use Rattle.program_store.specs.Store.{Store, programs_of, put_in, checked_at}
 use Rattle.loda_syntax.specs.Programs.{Text}
 use Rattle.seq_calls.specs.Demand.{ample, IsReliedOn}
+use Rattle.seq_calls.specs.Values.{KeepsValue}
 use Rattle.judge.specs.declared.answer.Answer.{Answer}
 use Rattle.judge.specs.declared.answer.Answer.TheVariants.{Accepted}
-use Rattle.judge.specs.Passed.{Terms, outcome, steps_in, Gives}
+use Rattle.judge.specs.Passed.{Terms}
 use Rattle.judge.specs.Sound.{Sound}
 use Rattle.judge.specs.Judged.{IsJudged}
-
--- the name has a value at the argument in both libraries, the same one, and takes no more steps for it in the new one
-pub record KeepsValue (old new : Library) (limit : ℕ) (p : ℕ) (x : ℤ) : Type 0 where
-  pub value : ℤ
-  pub was : Gives (outcome old p x limit) value
-  pub now : Gives (outcome new p x limit) value
-  pub no_dearer : steps_in (outcome new p x limit) ≤ steps_in (outcome old p x limit)
 
 -- From one store to the next no checked count falls, and each argument that is relied on keeps its value at no greater cost.
 pub record LosesNothing (limit : ℕ) (old new : Store) : Type 0 where

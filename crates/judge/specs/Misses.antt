@@ -9,13 +9,14 @@ use Rattle.program_store.specs.Store.{Store, published_at, programs_of}
 use Rattle.program_store.specs.Graph.{NoCycle}
 use Rattle.seq_calls.specs.declared.outcomes.Outcome.{Outcome as Told}
 use Rattle.seq_calls.specs.declared.outcomes.Outcome.TheVariants as told_as
+use Rattle.seq_calls.specs.Values.{outcome}
 use Rattle.judge.specs.declared.answer.Got.{Got}
 use Rattle.judge.specs.declared.answer.Got.TheVariants as got
 use Rattle.judge.specs.declared.answer.Unsound.{Unsound}
 use Rattle.judge.specs.declared.passing.NewCount.{NewCount}
 use Rattle.judge.specs.declared.passing.NewCount.TheVariants.{Checked, Wrong}
 use Rattle.judge.specs.Judged.{Checks}
-use Rattle.judge.specs.Passed.{Terms, outcome, got_of, PassesBelow, FailsFirst}
+use Rattle.judge.specs.Passed.{Terms, got_of, PassesBelow, FailsFirst}
 use Rattle.judge.specs.Sound.{IsEntrySound, SoundBelow, IsUnsound}
 
 -- what was got, of an outcome as it is told

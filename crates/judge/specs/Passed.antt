@@ -1,9 +1,10 @@
 -- Which leading terms of a row a program gives.
-use Rattle.std.specs.Prelude.{ℕ, ◌<◌, ◌≡◌, ◌⊎◌, ◌==◌, Bool, false, IsTrue, IsFalse, ℤ, pos, negsuc, List, length, slice_get}
+use Rattle.std.specs.Prelude.{ℕ, ◌<◌, ◌≡◌, ◌⊎◌, Bool, false, IsFalse, ℤ, pos, List, length, slice_get}
 use Rattle.std.specs.declared.option.Option.{Option}
 use Rattle.std.specs.declared.option.Option.TheVariants.{Some}
 use Rattle.loda_semantics.specs.declared.kinds.FaultKind.TheVariants as kind
-use Rattle.loda_semantics.specs.Exec.{Outcome, value, fault, out, Library, run_name}
+use Rattle.loda_semantics.specs.Exec.{Outcome, value, fault, out, Library}
+use Rattle.seq_calls.specs.Values.{outcome, gives, Gives}
 use Rattle.judge.specs.declared.answer.Got.{Got}
 use Rattle.judge.specs.declared.answer.Got.TheVariants as got
 
@@ -11,15 +12,7 @@ use Rattle.judge.specs.declared.answer.Got.TheVariants as got
 abbrev pub Terms : Type 0
 Terms = ℕ → Option (List ℤ)
 
--- what the program of a name comes to at an argument, within a limit of steps
-abbrev pub outcome : Library → ℕ → ℤ → ℕ → Outcome
-outcome lib q x limit = (run_name lib q x limit).0
-
-abbrev pub steps_in : Outcome → ℕ
-steps_in (value v n) = n
-steps_in (fault k n) = n
-steps_in (out n) = n
-
+-- what was got, of an outcome
 abbrev pub got_of : Outcome → Got
 got_of (value v n) = got.Value v
 got_of (fault kind.Overflow n) = got.Overflow
@@ -27,21 +20,6 @@ got_of (fault kind.DivideByZero n) = got.DivideByZero
 got_of (fault kind.BadCell n) = got.BadCell
 got_of (fault kind.Missing n) = got.Missing
 got_of (out n) = got.OutOfSteps
-
-abbrev pub same_int : ℤ → ℤ → Bool
-same_int (pos a) (pos b) = a == b
-same_int (negsuc a) (negsuc b) = a == b
-same_int (pos a) (negsuc b) = false
-same_int (negsuc a) (pos b) = false
-
--- whether the outcome is that value, whatever its steps
-abbrev pub gives : Outcome → ℤ → Bool
-gives (value w n) v = same_int w v
-gives (fault k n) v = false
-gives (out n) v = false
-
-abbrev pub Gives : Outcome → ℤ → Type 0
-Gives o v = IsTrue (gives o v)
 
 -- whether both outcomes are values, and the same
 abbrev pub agree : Outcome → Outcome → Bool

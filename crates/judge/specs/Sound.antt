@@ -4,9 +4,10 @@ use Rattle.std.specs.declared.option.Option.TheVariants.{Some, None}
 use Rattle.program_store.specs.declared.published.Published.{Published}
 use Rattle.program_store.specs.Store.{Store, published_at, programs_of}
 use Rattle.program_store.specs.Graph.{NoCycle, OnCycle}
+use Rattle.seq_calls.specs.Values.{outcome}
 use Rattle.judge.specs.declared.answer.Unsound.{Unsound}
 use Rattle.judge.specs.declared.answer.Unsound.TheVariants.{Cycle, NoRow, Count, Unmet}
-use Rattle.judge.specs.Passed.{Terms, outcome, got_of, PassesBelow, FailsFirst}
+use Rattle.judge.specs.Passed.{Terms, got_of, PassesBelow, FailsFirst}
 
 -- The name has a row, and its checked count is from 8 to the number of usable terms and of leading terms that are given.
 abbrev pub IsEntrySound : Store → Terms → ℕ → ℕ → Published → Type 0

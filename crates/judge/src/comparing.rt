@@ -5,7 +5,7 @@ ghost use Rattle.judge.specs.Changes.{runs_at, SameValue, OtherValue, MoreSteps,
 
 use checked_numbers::Num;
 use program_store::{Overlay, Proposal, View};
-use seq_calls::{Outcome, outcome_alone};
+use seq_calls::{Evaluator, Outcome};
 use std::alloc::{AllocError, Global};
 
 /// What a run came to with the old program, and what it comes to with the new one.
@@ -52,8 +52,9 @@ pub fn both_runs<V: View>(
         name: proposal.name,
         program: &proposal.program,
     };
-    let with_old = outcome_alone(alloc, view, proposal.name, at, limit)?;
-    let with_new = outcome_alone(alloc, &after, proposal.name, at, limit)?;
+    let mut evaluator = Evaluator::new(alloc);
+    let with_old = evaluator.outcome_alone(view, proposal.name, at, limit)?;
+    let with_new = evaluator.outcome_alone(&after, proposal.name, at, limit)?;
     Ok(BothRuns { with_old, with_new })
 }
 

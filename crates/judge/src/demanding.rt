@@ -1,6 +1,6 @@
 //! What changes for the checked runs of published programs.
 
-ghost use Rattle.std.specs.Prelude.{◌≡◌, ◌+◌, ◌<◌, ◌≤◌, ◌↔◌, IfOk, IsTrue};
+ghost use Rattle.std.specs.Prelude.{◌≡◌, ◌+◌, ◌<◌, ◌↔◌, IfOk, IsTrue};
 ghost use Rattle.program_store.specs.Store.{IsStore, checked_at};
 ghost use Rattle.judge.specs.Changes.{AreAllChanges, AreChangesBefore, AreChangesUpTo, IsSoundStore, MayRely, first_run, next_run};
 
@@ -45,7 +45,6 @@ fn after_run<V: View>(
     by: CheckedRun,
     changes: Changes,
 ) -> Result<Changes, AllocError>
-    requires limit { limit ≤ 10000000 }
     requires sound { IsSoundStore (V.store view.now) limit }
     requires checked { by.index < checked_at (V.store view.now) by.name }
     requires changes { AreChangesBefore (V.store view.now) limit proposal.now by changes }
@@ -91,7 +90,6 @@ fn after_name<V: View>(
     name: u32,
     mut changes: Changes,
 ) -> Result<Changes, AllocError>
-    requires limit { limit ≤ 10000000 }
     requires sound { IsSoundStore (V.store view.now) limit }
     requires changes { AreChangesBefore (V.store view.now) limit proposal.now (first_run name) changes }
     ensures { IfOk result (AreChangesBefore (V.store view.now) limit proposal.now (first_run (name + 1))) }
@@ -114,7 +112,6 @@ pub fn changes_of<V: View>(
     proposal: &Proposal,
     limit: u64,
 ) -> Result<Changes, AllocError>
-    requires limit { limit ≤ 10000000 }
     requires sound { IsSoundStore (V.store view.now) limit }
     requires store { IsStore (V.store view.now) }
     ensures { IfOk result (AreAllChanges (V.store view.now) limit proposal.now) }

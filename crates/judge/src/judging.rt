@@ -1,6 +1,6 @@
 //! Judging one proposal.
 
-ghost use Rattle.std.specs.Prelude.{◌≡◌, ◌≤◌, IfOk};
+ghost use Rattle.std.specs.Prelude.{IfOk};
 ghost use Rattle.oeis_terms.specs.Table.{row_of, IsBounded, IsTable};
 ghost use Rattle.judge.specs.Sound.{Sound};
 ghost use Rattle.judge.specs.Judged.{IsJudged};
@@ -26,7 +26,6 @@ pub fn judge<V: View>(
     proposal: &Proposal,
 ) -> Result<Answer, AllocError>
     requires sound { Sound (V.store view.now) (row_of terms.now) limit }
-    requires limit { limit ≤ 10000000 }
     requires bounded { IsBounded terms.now }
     ensures judged { IfOk result (IsJudged (V.store view.now) (row_of terms.now) limit proposal.now.name proposal.now.program) }
     ensures kept { IfOk result (IsKept (V.store view.now) (row_of terms.now) limit proposal.now.name proposal.now.program) }
@@ -45,7 +44,6 @@ fn first_answer<V: View>(
     proposal: &Proposal,
 ) -> Result<Answer, AllocError>
     requires sound { Sound (V.store view.now) (row_of terms.now) limit }
-    requires limit { limit ≤ 10000000 }
     requires bounded { IsBounded terms.now }
     ensures judged { IfOk result (IsJudged (V.store view.now) (row_of terms.now) limit proposal.now.name proposal.now.program) }
     ensures table { IsTable terms.now }

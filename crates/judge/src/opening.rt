@@ -103,7 +103,6 @@ pub fn check_store<V: View>(
     terms: &TermTable,
     limit: u64,
 ) -> Result<(), CheckError>
-    requires limit { limit ≤ 10000000 }
     requires bounded { IsBounded terms.now }
     ensures sound { OnOk result (Sound (V.store view.now) (row_of terms.now) limit) }
     ensures unsound { (u : Reason) → result ≡ Err (CheckError.Unsound u) → IsUnsound (V.store view.now) (row_of terms.now) limit u }

@@ -7,7 +7,7 @@ use crate::answer::Got;
 use checked_numbers::Num;
 use loda_semantics::FaultKind;
 use program_store::Library;
-use seq_calls::{Outcome, outcome_alone};
+use seq_calls::{Evaluator, Outcome};
 use std::alloc::{AllocError, Global};
 
 /// What was got of a run.
@@ -58,9 +58,10 @@ pub fn first_miss<B: Library>(
     requires { length terms.now ≤ 32768 }
     ensures { IfOk result (λ found. IsFirstMiss (B.programs lib.now) terms.now name limit found.0 found.1) }
 {
+    let mut evaluator = Evaluator::new(alloc);
     let mut index = 0;
     for term in terms {
-        let outcome = outcome_alone(alloc, lib, name, number_of(index), limit)?;
+        let outcome = evaluator.outcome_alone(lib, name, number_of(index), limit)?;
         if let Some(got) = missed(outcome, *term) {
             return Ok((index, Some(got)));
         }

@@ -1,6 +1,6 @@
 //! What is answered to a proposal for a published name.
 
-ghost use Rattle.std.specs.Prelude.{◌≡◌, ◌↔◌, ℕ, ◌<◌, ◌≤◌, IsTrue, IfOk, Some, pos};
+ghost use Rattle.std.specs.Prelude.{◌≡◌, ◌↔◌, ℕ, ◌<◌, IsTrue, IfOk, Some, pos};
 ghost use Rattle.program_store.specs.Store.{IsStore, published_at};
 ghost use Rattle.judge.specs.Changes.{runs_at, IsSoundStore, MoreSteps, SameSteps};
 ghost use Rattle.judge.specs.Replaced.{HasValue, IsBroken, IsCostlier, IsAnswer, TakesSameSteps, BringsNothing};
@@ -94,7 +94,6 @@ pub fn replacement_answer<V: View>(
     published: &Published,
     checked: u32,
 ) -> Result<Answer, AllocError>
-    requires limit { limit ≤ 10000000 }
     requires sound { IsSoundStore (V.store view.now) limit }
     requires store { IsStore (V.store view.now) }
     requires published { published_at (V.store view.now) proposal.now.name ≡ Some published.now }

@@ -1,6 +1,6 @@
 //! Sequences of proposals, each judged, and published where it is accepted.
 
-ghost use Rattle.std.specs.Prelude.{◌≤◌, IsTrue, IfOk};
+ghost use Rattle.std.specs.Prelude.{IsTrue, IfOk};
 ghost use Rattle.oeis_terms.specs.Table.{IsBounded, row_of};
 ghost use Rattle.judge.specs.Sound.{Sound};
 
@@ -166,7 +166,6 @@ fn shelf_of(alloc: Global, text: &str) -> Result<MemoryShelf, AllocError> {
 
 // Whether a store is found sound.
 fn is_sound(alloc: Global, store: &Store, terms: &TermTable, limit: u64) -> Result<bool, AllocError>
-    requires limit { limit ≤ 10000000 }
     requires bounded { IsBounded terms.now }
     ensures { IfOk result (λ sound. IsTrue sound → Sound store.now (row_of terms.now) limit) }
 {
@@ -185,7 +184,6 @@ fn answer_in(
     limit: u64,
     proposal: &Proposal,
 ) -> Result<Told, AllocError>
-    requires limit { limit ≤ 10000000 }
     requires bounded { IsBounded terms.now }
 {
     if !is_sound(alloc, store, terms, limit)? {

@@ -12,4 +12,4 @@ returns-clause-one g c = one_answer (g.V.View.store c.args.view.now) (row_of c.a
 pub returns-clause-kept : goal.returns-clause-kept
 returns-clause-kept g c =
     kept (g.V.View.store c.args.view.now) c.args.terms.now c.args.limit c.args.proposal.now.name c.args.proposal.now.program c.in_ok-answer.answer
-    c.requires.limit c.in_ok-answer.ensures.table c.requires.sound c.in_ok-answer.ensures.judged
+    c.ranges.limit.fits c.in_ok-answer.ensures.table c.requires.sound c.in_ok-answer.ensures.judged

@@ -10,7 +10,7 @@ broken-requires g c =
     let s = g.V.View.store c.args.view.now in
     let q = c.args.proposal.now.name in
     let p = c.args.proposal.now.program in
-    had_value s c.args.limit q p OtherValue c.in-Some.changed c.requires.limit c.requires.sound
+    had_value s c.args.limit q p OtherValue c.in-Some.changed c.ranges.limit.fits c.requires.sound
     (subst (λ (o : Option Changed). IsLeast OtherValue (runs_at s c.args.limit q p) (Relies s q) o) c.in-Some.is c.in_ok-changes.ensures.other_value)
 
 pub returns-in-Some : goal.returns-in-Some
