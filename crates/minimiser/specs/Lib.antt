@@ -1,0 +1,4 @@
+pub mod Cuts
+pub mod Minimum
+pub mod Laws
+pub mod Given
