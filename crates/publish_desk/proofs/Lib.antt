@@ -1,3 +1,9 @@
 pub mod Lists
-pub mod Admit
+pub mod Room
+pub mod Places
+pub mod Publish
+pub mod OneJournal
 pub mod Texts
+pub mod Whole
+pub mod Opening
+pub mod Fitting

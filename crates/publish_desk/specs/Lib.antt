@@ -1,4 +1,5 @@
 pub mod History
 pub mod Source
 pub mod Desk
+pub mod OneJournal
 pub mod Report

@@ -3,14 +3,14 @@ use Rattle.std.specs.Prelude.{ℕ, List, [], ◌∷◌, ◌++◌, length, codes,
 use Rattle.std.specs.Fmt.{decimal, signed_decimal}
 use Rattle.loda_syntax.specs.Canon.{canon}
 use Rattle.program_store.specs.Store.{Store}
-use Rattle.program_store.specs.Headers.{name_text}
+use Rattle.text_parts.specs.Names.{name_text}
 use Rattle.program_store.specs.StoreText.{store_text}
 use Rattle.judge.specs.declared.answer.Got.{Got}
 use Rattle.judge.specs.declared.answer.Got.TheVariants as got
 use Rattle.judge.specs.declared.answer.Answer.{Answer}
 use Rattle.judge.specs.declared.answer.Answer.TheVariants.{Accepted, Unlisted, Cycle, WrongTerm, BrokenDependant, Costlier, NoGain}
-use Rattle.publish_desk.specs.declared.entry.Finding.{Finding}
-use Rattle.publish_desk.specs.declared.entry.Finding.TheVariants.{Nothing, Judged}
+use Rattle.evidence.specs.declared.finding.Finding.{Finding}
+use Rattle.evidence.specs.declared.finding.Finding.TheVariants.{Nothing, Judged}
 use Rattle.publish_desk.specs.declared.entry.Entry.{Entry}
 
 -- a value, or the word of what came in its place

@@ -1,5 +1,4 @@
 -- What proposals come from.
-use Rattle.std.specs.Prelude.{slice_get}
 use Rattle.std.specs.Arc.{arc_value}
 use Rattle.publish_desk.specs.declared.charter.Source.{Source}
 use Rattle.publish_desk.specs.declared.charter.Source.TheVariants as source

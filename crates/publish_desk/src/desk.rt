@@ -1,20 +1,22 @@
 //! A store, and the journal of the jobs that were decided.
 
-ghost use Rattle.std.specs.Prelude.{◌≡◌, ◌≢◌, ◌+◌, ◌++◌, ◌∷◌, [], IfOk, OnOk, OnErr, All, length, ◌<◌, ◌≤◌};
+ghost use Rattle.std.specs.Prelude.{◌≡◌, ◌+◌, ◌<◌, ◌≤◌, ℕ, [], IfOk, IfSome, IfNone, length};
 ghost use Rattle.std.specs.Arc.{arc_value};
 ghost use Rattle.oeis_terms.specs.Table.{row_of, IsBounded};
 ghost use Rattle.judge.specs.Sound.{IsUnsound};
-ghost use Rattle.publish_desk.specs.History.{store_after, rise, IsFinding};
-ghost use Rattle.program_store.specs.Store.{IsProposal};
+ghost use Rattle.evidence.specs.Findings.{next_store};
+ghost use Rattle.publish_desk.specs.History.{IsMissing, IsDoneAt, Made, Publishes};
 ghost use Rattle.publish_desk.specs.Source.{source_of};
-ghost use Rattle.publish_desk.specs.Desk.{proposed, jobs_of, terms_of, IsKept, IsChartered, IsNamed};
-ghost use Rattle.publish_desk.specs.declared.entry.Entry.{Entry as entry};
+ghost use Rattle.publish_desk.specs.Desk.{HasJobs, decided, IsKept, IsChartered, IsFitting, IsVerdict};
 
-use crate::entry::{Entry, Finding};
+use crate::entry::Entry;
 use crate::origin::Origin;
-use judge::{CheckError, Unsound, check_store, judge};
+use crate::verdict::Verdict;
+use demand_table::Tables;
+use evidence::{Dossier, Finding, Parts};
+use judge::{CheckError, Unsound, check_store};
 use oeis_terms::TermTable;
-use program_store::{Proposal, Published, Store};
+use program_store::Store;
 use std::alloc::{AllocError, Global};
 use std::marker::Model;
 use std::snapshot::Snapshot;
@@ -41,6 +43,7 @@ impl From<AllocError> for OpenError {
 
 /// A store of programs, and the journal of what was decided about each job. It is seen as one record, which keeps that
 /// the journal is legal and replays to the store, that the store is sound, and that no replacement took anything away.
+/// The whole journal is reserved when it opens, with a place for each job and each version.
 #[derive(Drop)]
 pub struct Desk {
     opening: Snapshot<Store>,
@@ -49,13 +52,20 @@ pub struct Desk {
     origin: Origin,
     jobs: u64,
     journal: Vec<Entry>,
+    // of each job 0, or its entry's place and one more
+    places: Vec<u64>,
+    // of each version the place of the entry that ended it
+    marks: Vec<u64>,
     version: u64,
-    store: Store,
+    tables: Tables,
 }
 
 impl Model for Desk {
     ghost use Rattle.publish_desk.specs.Desk as spec;
+    ghost use Rattle.publish_desk.specs.History as past;
     ghost use Rattle.publish_desk.specs.Source.{source_of};
+    ghost use Rattle.std.specs.Prelude.{◌≤◌};
+    ghost use Rattle.std.specs.Vec.{vec_capacity};
     ghost use Rattle.std.specs.Arc.{arc_value};
     ghost use Rattle.std.specs.Coded.{codes, coded_ℕ};
     ghost use Rattle.std.specs.FinMap as map;
@@ -66,11 +76,15 @@ impl Model for Desk {
 
     ghost coded = { Prim.hlevel (codes, map.code {R = nat_cmp} coded_ℕ published.the_row.coded) };
 
-    ghost view = { λ d. record { charter = record { opening = d.opening.value; terms = arc_value d.terms; limit = d.limit; source = source_of d.origin; jobs = d.jobs }; journal = d.journal.items; version = d.version; store = d.store } };
+    ghost view = { λ d. record { charter = record { opening = d.opening.value; terms = arc_value d.terms; limit = d.limit; source = source_of d.origin; jobs = d.jobs }; journal = d.journal.items; version = d.version; store = d.tables } };
 
     ghost invariant = { λ d.
-        spec.IsKept (record { charter = record { opening = d.opening.value; terms = arc_value d.terms; limit = d.limit; source = source_of d.origin; jobs = d.jobs }; journal = d.journal.items; version = d.version; store = d.store })
-        × spec.IsChartered (record { opening = d.opening.value; terms = arc_value d.terms; limit = d.limit; source = source_of d.origin; jobs = d.jobs }) };
+        spec.IsKept (record { charter = record { opening = d.opening.value; terms = arc_value d.terms; limit = d.limit; source = source_of d.origin; jobs = d.jobs }; journal = d.journal.items; version = d.version; store = d.tables })
+        × spec.IsChartered (record { opening = d.opening.value; terms = arc_value d.terms; limit = d.limit; source = source_of d.origin; jobs = d.jobs })
+        × past.ArePlaces d.jobs d.journal.items d.places.items
+        × past.AreMarks d.version d.journal.items d.marks.items
+        × (d.jobs ≤ vec_capacity d.journal)
+        × (d.jobs ≤ vec_capacity d.marks) };
 }
 
 impl Desk {
@@ -85,7 +99,7 @@ impl Desk {
     ) -> Result<Desk, OpenError>
         requires limit { (1 ≤ limit) × (limit ≤ 10000000) }
         requires jobs { jobs ≤ 1000000 }
-        requires listed { jobs ≡ jobs_of (source_of origin) }
+        requires listed { HasJobs (source_of origin) jobs }
         requires bounded { IsBounded (arc_value terms) }
         ensures charter { IfOk result (λ d. d.charter ≡ record { opening = opening; terms = arc_value terms; limit = limit; source = source_of origin; jobs = jobs }) }
         ensures journal { IfOk result (λ d. d.journal ≡ []) }
@@ -100,7 +114,11 @@ impl Desk {
             Err(CheckError::Memory) => return Err(OpenError::Memory),
         }
         let _ = terms.rows();
+        let tables = Tables::build(alloc, &opening, limit)?;
         let journal = Vec::with_capacity(alloc, jobs as usize)?;
+        let marks = Vec::with_capacity(alloc, jobs as usize)?;
+        let mut places = Vec::new(alloc);
+        places.resize(jobs as usize, 0)?;
         Ok(Desk {
             opening: Snapshot::of(&opening),
             terms,
@@ -108,61 +126,97 @@ impl Desk {
             origin,
             jobs,
             journal,
+            places,
+            marks,
             version: 0,
-            store: opening,
+            tables,
         })
     }
 
-    // What is proposed for a job.
-    fn proposal(&self, job: u64) -> &Proposal
-        requires { job < self.now.charter.jobs }
-        ensures value { proposed self.now.charter.source job self.now.store ≡ Some result.now }
-        ensures kept { IsProposal result.now }
+    /// Publishes a dossier, unless its job has an entry or the store has changed since its snapshot. Nothing is run and no
+    /// memory is taken.
+    pub fn publish(&mut self, dossier: Dossier) -> Verdict
+        requires { IsFitting self.old dossier }
+        ensures { IsVerdict self.old self.new dossier result }
     {
-        match &self.origin {
-            Origin::Listed(candidates) => candidates.at(job),
+        let place = self.places[dossier.job() as usize];
+        if place > 0 {
+            return Verdict::AlreadyDone {
+                at: place - 1,
+                dossier,
+            };
         }
+        let seen = dossier.seen();
+        if seen < self.version {
+            let first = self.marks[seen as usize];
+            let name = name_of(&self.journal[first as usize].finding);
+            return Verdict::Again {
+                version: self.version,
+                first,
+                name,
+                dossier,
+            };
+        }
+        let at = self.decide(dossier);
+        Verdict::Decided { at }
     }
 
-    /// The finding for a job in the present store.
-    pub fn find(&self, alloc: Global, job: u64) -> Result<Finding, AllocError>
-        requires { job < self.now.charter.jobs }
-        ensures { IfOk result (IsFinding self.now.store (terms_of self.now.charter) self.now.charter.limit (proposed self.now.charter.source job self.now.store)) }
+    // Adds the entry of a dossier that saw the present version, for a job that has none, and answers the entry's place.
+    fn decide(&mut self, dossier: Dossier) -> u64
+        requires fitting { IsFitting self.old dossier }
+        requires missing { IsMissing self.old.journal dossier.job }
+        requires seen { dossier.snapshot.version ≡ self.old.version }
+        ensures place { result ≡ length self.old.journal }
+        ensures next { self.new ≡ decided self.old dossier }
     {
-        let proposal = self.proposal(job).copy()?;
-        let answer = judge(alloc, &self.store, &self.terms, self.limit, &proposal)?;
-        Ok(Finding::Judged { proposal, answer })
-    }
-
-    /// Adds the entry of a job, with the present version as its base, and answers the entry's place. Where the finding
-    /// is an accepted proposal, its program is published. After want of memory the desk is as it was.
-    pub fn admit(&mut self, job: u64, finding: Finding) -> Result<u64, AllocError>
-        requires listed { job < self.old.charter.jobs }
-        requires once { All (λ (e : entry). e.job ≢ job) self.old.journal }
-        requires finding { IsFinding self.old.store (terms_of self.old.charter) self.old.charter.limit (proposed self.old.charter.source job self.old.store) finding }
-        ensures place { IfOk result (λ at. at ≡ length self.old.journal) }
-        ensures journal { OnOk result (self.new.journal ≡ self.old.journal ++ record { job = job; base = self.old.version; finding = finding } ∷ []) }
-        ensures version { OnOk result (self.new.version ≡ self.old.version + rise finding) }
-        ensures store { OnOk result (self.new.store ≡ store_after finding self.old.store) }
-        ensures charter { OnOk result (self.new.charter ≡ self.old.charter) }
-        ensures unchanged { OnErr result (self.new ≡ self.old) }
-    {
-        let _ = self.proposal(job);
-        self.journal.reserve(1)?;
-        let risen = publish(&mut self.store, &finding)?;
-        let base = self.version;
+        let Parts {
+            job,
+            base,
+            finding,
+            next,
+        } = dossier.into_parts();
+        let at = self.journal.len() as u64;
+        self.places[job as usize] = at + 1;
+        let Some(tables) = next else {
+            self.journal.push_reserved(Entry { job, base, finding });
+            return at;
+        };
+        self.tables = tables;
+        self.marks.push_reserved(at);
+        self.version += 1;
         self.journal.push_reserved(Entry { job, base, finding });
-        let entries = self.journal.len() as u64;
-        self.version += risen;
-        Ok(entries - 1)
+        at
     }
 
-    /// The present store.
-    pub fn store(&self) -> &Store
-        ensures value { result.now ≡ self.now.store }
-        ensures kept { IsKept self.now }
+    /// The least job without an entry. `None` exactly where each job has one.
+    pub fn missing_job(&self) -> Option<u64>
+        ensures some { IfSome result (λ job. (job < self.now.charter.jobs) × IsMissing self.now.journal job) }
+        ensures least { IfSome result (λ job. (j : ℕ) → j < job → (at : ℕ) × IsDoneAt self.now.journal j at) }
+        ensures none { IfNone result ((j : ℕ) → j < self.now.charter.jobs → (at : ℕ) × IsDoneAt self.now.journal j at) }
     {
-        &self.store
+        let mut job = 0;
+        for place in &self.places {
+            if *place == 0 {
+                return Some(job);
+            }
+            job += 1;
+        }
+        None
+    }
+
+    /// The present tables, version and length of the journal.
+    pub fn snapshot(&self) -> Result<evidence::Snapshot, AllocError>
+        ensures { IfOk result (λ s. s ≡ record { store = self.now.store; version = self.now.version; length = length self.now.journal }) }
+    {
+        let tables = self.tables.share()?;
+        Ok(evidence::Snapshot::of(tables, self.version, self.journal.len() as u64))
+    }
+
+    /// The present tables.
+    pub(crate) fn tables(&self) -> &Tables
+        ensures { result.now ≡ self.now.store }
+    {
+        &self.tables
     }
 
     /// The entries, in the order in which they were decided.
@@ -188,31 +242,39 @@ impl Desk {
     {
         self.jobs
     }
+
+    /// The usable terms.
+    pub fn terms(&self) -> &Arc<TermTable>
+        ensures { arc_value result.now ≡ self.now.charter.terms }
+    {
+        &self.terms
+    }
+
+    /// The limit of steps of one run.
+    pub fn limit(&self) -> u64
+        ensures { result ≡ self.now.charter.limit }
+    {
+        self.limit
+    }
+
+    /// Where proposals come from.
+    pub fn origin(&self) -> &Origin
+        ensures { source_of result.now ≡ self.now.charter.source }
+    {
+        &self.origin
+    }
 }
 
-/// Puts an accepted program into the store, and answers by how much the version rises.
-fn publish(store: &mut Store, finding: &Finding) -> Result<u64, AllocError>
-    requires { IsNamed finding.now }
-    ensures risen { IfOk result (λ risen. risen ≡ rise finding.now) }
-    ensures store { OnOk result (store.new ≡ store_after finding.now store.old) }
-    ensures unchanged { OnErr result (store.new ≡ store.old) }
+// The name that an accepted finding publishes.
+fn name_of(finding: &Finding) -> u32
+    requires { (name : ℕ) × Publishes finding.now name }
+    ensures { Publishes finding.now result }
 {
-    let Finding::Judged {
-        proposal,
-        answer: judge::Answer::Accepted { checked },
-    } = finding
-    else {
-        return Ok(0);
-    };
-    let program = proposal.program.copy()?;
-    match store.put(
-        proposal.name,
-        Published {
-            program,
-            checked: *checked,
-        },
-    ) {
-        Ok(_) => Ok(1),
-        Err(_) => Err(AllocError),
+    match finding {
+        Finding::Judged {
+            proposal,
+            answer: _,
+        } => proposal.name,
+        Finding::Nothing => unreachable!(),
     }
 }

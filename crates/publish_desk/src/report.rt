@@ -1,18 +1,22 @@
 //! The report of a journal.
 
-ghost use Rattle.std.specs.Prelude.{◌≡◌, ◌++◌, OnOk};
+ghost use Rattle.std.specs.Prelude.{◌≡◌, ◌++◌, OnOk, OnErr};
 ghost use Rattle.std.specs.Fmt.{decimal, signed_decimal};
-ghost use Rattle.program_store.specs.Headers.{name_text};
+ghost use Rattle.loda_syntax.specs.Answers.{AddsFront};
+ghost use Rattle.text_parts.specs.Names.{name_text};
+ghost use Rattle.loda_syntax.specs.Answers.{AddsFront};
 ghost use Rattle.publish_desk.specs.Report.{got_text, broken_text, costlier_text, answer_text, finding_text, entry_text, entries_text, end_text, report};
 
 use crate::desk::Desk;
-use crate::entry::{Entry, Finding};
+use crate::entry::Entry;
 use checked_numbers::{Num, write_num};
+use evidence::Finding;
 use itoa::Buffer;
 use judge::{Answer, Got};
 use loda_syntax::print;
-use program_store::{name_text, print_store};
+use program_store::print_store;
 use std::alloc::AllocError;
+use text_parts::name_text;
 
 // Adds a count's decimal.
 fn write_count(out: &mut Vec<u8>, count: u64) -> Result<(), AllocError>
@@ -148,34 +152,42 @@ fn write_entry(out: &mut Vec<u8>, entry: &Entry) -> Result<(), AllocError>
     write_finding(out, &entry.finding)
 }
 
-// Adds the entries in the order in which they came.
+// Adds the entries in the order in which they came, each whole.
 fn write_entries(out: &mut Vec<u8>, entries: &[Entry]) -> Result<(), AllocError>
-    ensures { OnOk result (out.new.items ≡ out.old.items ++ entries_text entries.now) }
+    ensures ok { OnOk result (out.new.items ≡ out.old.items ++ entries_text entries.now) }
+    ensures err { OnErr result (AddsFront out.old.items out.new.items (entries_text entries.now)) }
 {
+    let mut text = Vec::new(*out.allocator());
     for entry in entries {
-        write_entry(out, entry)?;
+        text.clear();
+        write_entry(&mut text, entry)?;
+        out.extend_from_slice(&text)?;
     }
     Ok(())
 }
 
-// Adds the last line: the numbers of entries and of accepted ones.
+// Adds the last line whole: the numbers of entries and of accepted ones.
 fn write_end(out: &mut Vec<u8>, jobs: u64, version: u64) -> Result<(), AllocError>
-    ensures { OnOk result (out.new.items ≡ out.old.items ++ end_text jobs version) }
+    ensures ok { OnOk result (out.new.items ≡ out.old.items ++ end_text jobs version) }
+    ensures err { OnErr result (out.new.items ≡ out.old.items) }
 {
-    write_counted(out, b"end jobs ", jobs)?;
-    write_counted(out, b" version ", version)?;
-    out.extend_from_slice(b"\n")
+    let mut line = Vec::new(*out.allocator());
+    write_counted(&mut line, b"end jobs ", jobs)?;
+    write_counted(&mut line, b" version ", version)?;
+    line.extend_from_slice(b"\n")?;
+    out.extend_from_slice(&line)
 }
 
 /// Adds the report of a desk: its entries in the order in which they came, its store, and the numbers of entries and of
-/// accepted ones.
+/// accepted ones. After want of memory `out` has its old bytes and a first part of the report.
 #[tactic(auto, unfolding(crate::specs::Report::report))]
 pub fn write_report(desk: &Desk, out: &mut Vec<u8>) -> Result<(), AllocError>
-    ensures { OnOk result (out.new.items ≡ out.old.items ++ report desk.now.journal desk.now.version desk.now.store) }
+    ensures ok { OnOk result (out.new.items ≡ out.old.items ++ report desk.now.journal desk.now.version desk.now.store) }
+    ensures err { OnErr result (AddsFront out.old.items out.new.items (report desk.now.journal desk.now.version desk.now.store)) }
 {
     out.extend_from_slice(b"journal\n")?;
     write_entries(out, desk.entries())?;
     out.extend_from_slice(b"store\n")?;
-    print_store(desk.store(), out)?;
+    print_store(desk.tables(), out)?;
     write_end(out, desk.entries().len() as u64, desk.version())
 }

@@ -1,0 +1,11 @@
+pub mod Known
+pub mod Checked
+pub mod RunsAt
+pub mod Replaceable
+pub mod Outcomes
+pub mod Least
+pub mod Tries
+pub mod Costs
+pub mod Weights
+pub mod Demanded
+pub mod Replies

@@ -1,0 +1,49 @@
+-- Outcomes as they are told.
+use Rattle.std.proofs.Common.{ℕ, ◌<◌, ◌≡◌, refl, sym, ap, subst, ◌∙◌, arith, ℤ, pos, Bool, true, false}
+use Rattle.std.specs.Prelude.{IsTrue, IsFalse}
+use Rattle.seq_calls.proofs.Values.{same_int-is, same_int-true}
+use Rattle.seq_calls.specs.Values.{gives, Gives, same_int}
+use Rattle.loda_semantics.specs.Exec.{Outcome, value, fault, out}
+use Rattle.seq_calls.specs.declared.outcomes.Outcome.TheVariants as told_as
+use Rattle.seq_calls.specs.Frames.{told, steps_of}
+use Rattle.judge.specs.declared.answer.Got.{Got}
+use Rattle.judge.specs.declared.answer.Got.TheVariants as got
+use Rattle.judge.specs.Passed.{agree, got_of}
+use Rattle.judge.specs.Misses.{got_told}
+use Rattle.judge.proofs.Misses.{got_same, false_unless}
+
+-- what is told as a value is that value
+pub told_value : (o : Outcome) (v : ℤ) (n : ℕ) → told o ≡ told_as.Value v n → o ≡ value v n
+told_value (value w m) v n e = let h : told_as.Value w m ≡ told_as.Value v n = e in let f : w ≡ v = cc in let g : m ≡ n = cc in ap (λ (z : ℤ). value z m) f ∙ ap (λ (k : ℕ). value v k) g
+told_value (fault k m) v n e = absurd (let h : told_as.Fault k m ≡ told_as.Value v n = e in cc)
+told_value (out m) v n e = absurd (let h : told_as.OutOfSteps ≡ told_as.Value v n = e in cc)
+
+-- what isn't got as a number doesn't give it
+pub not_got : (o : Outcome) (v : ℤ) → (got_told (told o) ≡ got.Value v → ⊥) → IsFalse (gives o v)
+not_got (value w n) v h = false_unless (same_int w v) (λ s. h (ap (λ (z : ℤ). got.Value z) (same_int-is w v s)))
+not_got (fault k n) v h = refl
+not_got (out n) v h = refl
+
+pub got_is : (o : Outcome) → got_told (told o) ≡ got_of o
+got_is o = got_same o
+
+-- the old outcome is this value, which the new one doesn't give
+pub disagree : (a b : Outcome) (v : ℤ) (n : ℕ) → a ≡ value v n → IsFalse (gives b v) → IsFalse (agree a b)
+disagree a b v n e f = subst (λ (z : Outcome). IsFalse (agree z b)) (sym e) f
+
+pub agreeing : (a b : Outcome) (v : ℤ) (n m : ℕ) → a ≡ value v n → b ≡ value v m → IsFalse (agree a b) → ⊥
+agreeing a b v n m e f h =
+    let t : IsFalse (same_int v v) = subst (λ (z : Outcome). IsFalse (agree (value v n) z)) f (subst (λ (z : Outcome). IsFalse (agree z b)) e h) in
+    let s : IsTrue (same_int v v) = same_int-true v in
+    let x : false ≡ true = sym t ∙ s in cc
+
+pub steps_value : (o : Outcome) (v : ℤ) (n : ℕ) → o ≡ value v n → steps_of o ≡ n
+steps_value o v n e = ap steps_of e
+
+pub gives_it : (o : Outcome) (v : ℤ) (n : ℕ) → o ≡ value v n → Gives o v
+gives_it o v n e = subst (λ (z : Outcome). Gives z v) (sym e) (same_int-true v)
+
+pub steps_same : (o : Outcome) → steps_of o ≡ steps_of o
+steps_same (value v n) = refl
+steps_same (fault k n) = refl
+steps_same (out n) = refl

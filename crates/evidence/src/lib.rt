@@ -1,0 +1,17 @@
+//! What was found for a job in the store of a snapshot, ready to be published.
+#![tactic(auto)]
+
+mod comparing;
+mod dossier;
+mod finding;
+mod gathering;
+mod snapshot;
+#[cfg(test)]
+mod tests;
+mod trying;
+mod weighing;
+
+pub use dossier::{Dossier, Parts};
+pub use finding::Finding;
+pub use gathering::gather;
+pub use snapshot::Snapshot;
