@@ -15,7 +15,7 @@ use Rattle.loda_mine.specs.declared.status.FileRole.TheVariants.{Terms, Store, C
 use Rattle.loda_mine.specs.declared.status.Status.{Status}
 use Rattle.loda_mine.specs.declared.status.Status.TheVariants.{Done, Usage, ReadFault, FileTooLarge, LineTooLong, BadTerms, BadStore, BadCandidates, Unsound, Absent, WriteFault, Memory}
 use Rattle.loda_mine.specs.declared.words.Task.{Task}
-use Rattle.loda_mine.specs.declared.words.Task.TheVariants.{Publish, Check, Eval}
+use Rattle.loda_mine.specs.declared.words.Task.TheVariants.{Publish, Check, Eval, Made}
 use Rattle.loda_mine.specs.Words.{Request}
 use Rattle.loda_mine.proofs.Opened.{nothing_checked}
 use Rattle.loda_mine.proofs.Ends.{May, errs_is, contents_may, refuses_may}
@@ -147,6 +147,17 @@ ready_memory (Eval name arg) limit contents (BadStore line kind) ready h = absur
 ready_memory (Eval name arg) limit contents (BadCandidates line kind) ready h = absurd h
 ready_memory (Eval name arg) limit contents (Unsound reason) ready h = absurd h
 ready_memory (Eval name arg) limit contents WriteFault ready h = absurd h
+ready_memory (Made n what) limit contents Done ready h = absurd h
+ready_memory (Made n what) limit contents Usage ready h = absurd h
+ready_memory (Made n what) limit contents (ReadFault file) ready h = absurd h
+ready_memory (Made n what) limit contents (FileTooLarge file size) ready h = absurd h
+ready_memory (Made n what) limit contents (LineTooLong file line) ready h = absurd h
+ready_memory (Made n what) limit contents (BadTerms line kind) ready h = absurd h
+ready_memory (Made n what) limit contents (BadStore line kind) ready h = absurd h
+ready_memory (Made n what) limit contents (BadCandidates line kind) ready h = absurd h
+ready_memory (Made n what) limit contents (Unsound reason) ready h = absurd h
+ready_memory (Made n what) limit contents (Absent name) ready h = absurd h
+ready_memory (Made n what) limit contents WriteFault ready h = absurd h
 
 abbrev Completes : Status → Type 0
 Completes s = (s ≡ Done) ⊎ (s ≡ Memory)

@@ -16,7 +16,7 @@ use Rattle.loda_mine.specs.declared.status.FileRole.TheVariants.{Terms, Store, C
 use Rattle.loda_mine.specs.declared.status.Status.{Status}
 use Rattle.loda_mine.specs.declared.status.Status.TheVariants.{ReadFault, BadStore, Memory}
 use Rattle.loda_mine.specs.declared.words.Task.{Task}
-use Rattle.loda_mine.specs.declared.words.Task.TheVariants.{Publish, Check, Eval}
+use Rattle.loda_mine.specs.declared.words.Task.TheVariants.{Publish, Check, Eval, Made}
 use Rattle.loda_mine.specs.Words.{Request}
 use Rattle.loda_mine.specs.Answer.{Found, ◌>>=◌, bytes_of, table_in, parsed_in, terms_of, store_of, candidates_of, contents_of, Refuses, IsAnswer}
 use Rattle.loda_mine.proofs.Ends.{Errs, errs_then}
@@ -136,6 +136,7 @@ never_blames : (task : Task) (limit : ℕ) (contents : Contents) (file : FileRol
 never_blames Publish limit contents file h = h
 never_blames Check limit contents file h = h
 never_blames (Eval name arg) limit contents file h = h
+never_blames (Made n kind) limit contents file h = h
 
 -- what is blamed on a later file was not met at this one
 blamed_later : {A B : Type 0} (role file : FileRole) (r : Result A Status) (f : A → Result B Status) → Errs (OfFile role) r → r >>= f ≡ Err (ReadFault file) → (file ≡ role → ⊥)

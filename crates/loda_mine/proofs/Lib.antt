@@ -6,3 +6,4 @@ pub mod Ends
 pub mod Exact
 pub mod ReadWords
 pub mod First
+pub mod Unrefused

@@ -1,6 +1,7 @@
 -- What is answered, by what was found at the paths.
 use Rattle.std.specs.Prelude.{◌≡◌, ℕ, List, length, Result, Ok, Err}
 use Rattle.std.specs.declared.option.Option.TheVariants.{Some, None}
+use Rattle.std.specs.FinMap as map
 use Rattle.std.specs.Global.{Vec}
 use Rattle.loda_io.specs.declared.ReadError.{ReadError}
 use Rattle.loda_io.specs.declared.ReadError.TheVariants as errors
@@ -13,6 +14,9 @@ use Rattle.program_store.specs.declared.published.Published.{Published}
 use Rattle.program_store.specs.Files as store_file
 use Rattle.program_store.specs.Store as stores
 use Rattle.program_store.specs.Store.{published_at, programs_of}
+use Rattle.program_store.specs.StoreText.{store_text}
+use Rattle.made_input.specs.Values.{made_table, made_store, made_candidates}
+use Rattle.made_input.specs.Texts.{terms_text, candidates_text}
 use Rattle.seq_calls.specs.Frames.{told}
 use Rattle.judge.specs.declared.opening.CheckError.{CheckError}
 use Rattle.judge.specs.declared.opening.CheckError.TheVariants as check_errors
@@ -29,9 +33,11 @@ use Rattle.loda_mine.specs.declared.status.FileRole.TheVariants.{Terms, Store, C
 use Rattle.loda_mine.specs.declared.status.Status.{Status}
 use Rattle.loda_mine.specs.declared.status.Status.TheVariants as statuses
 use Rattle.loda_mine.specs.declared.words.Task.{Task}
-use Rattle.loda_mine.specs.declared.words.Task.TheVariants.{Publish, Check, Eval}
+use Rattle.loda_mine.specs.declared.words.Task.TheVariants.{Publish, Check, Eval, Made}
+use Rattle.loda_mine.specs.declared.words.Kind.{Kind}
+use Rattle.loda_mine.specs.declared.words.Kind.TheVariants as kinds
 use Rattle.loda_mine.specs.Words.{Request}
-use Rattle.loda_mine.specs.Outputs.{outcome_text, sound_text}
+use Rattle.loda_mine.specs.Outputs.{outcome_text, sound_text, summary_text}
 
 -- what reading each file gave: its bytes, or an error
 pub record Found : Type 0 where
@@ -104,12 +110,25 @@ pub record IsDecided (contents : Contents) (limit : ℕ) (d : Desk) : Type 0 whe
   pub in_order : IsInOrder (history d)
   pub whole : length d.journal ≡ length contents.candidates
 
+-- what stands in made files: the rows, no program, and the candidates of n names
+abbrev pub made_contents : ℕ → Contents
+made_contents n = record { terms = made_table n; store = map.empty; candidates = made_candidates n }
+
+-- What `made` writes: a file, or the summary of a desk that was opened on the made files and has decided every candidate.
+abbrev pub WritesMade : Kind → ℕ → ℕ → List ℕ → Type 0
+WritesMade kinds.Terms n limit output = output ≡ terms_text n
+WritesMade kinds.Store n limit output = output ≡ store_text (made_store n)
+WritesMade kinds.Candidates n limit output = output ≡ candidates_text n
+WritesMade kinds.Run n limit output =
+    (d : Desk) × IsDecided (made_contents n) limit d × (output ≡ summary_text n (length (made_table n).rows) d.journal d.version)
+
 -- what a command writes
 abbrev pub Writes : Task → ℕ → Contents → List ℕ → Type 0
 Writes Publish limit contents output = (d : Desk) × IsDecided contents limit d × (output ≡ report d.journal d.version d.store)
 Writes Check limit contents output = Sound contents.store (row_of contents.terms) limit × (output ≡ sound_text contents)
 Writes (Eval name arg) limit contents output =
     (e : Published) × (published_at contents.store name ≡ Some e) × (output ≡ outcome_text (told (run_name (programs_of contents.store) name arg limit).0))
+Writes (Made n kind) limit contents output = WritesMade kind n limit output
 
 -- why it writes nothing: the opening store isn't sound, the name isn't published, or memory ran out
 abbrev pub Refuses : Task → ℕ → Contents → Status → Type 0

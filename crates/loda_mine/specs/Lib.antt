@@ -4,3 +4,4 @@ pub mod Outputs
 pub mod Answer
 pub mod Run
 pub mod Files
+pub mod Endings

@@ -18,7 +18,7 @@ use Rattle.loda_mine.specs.declared.status.FileRole.TheVariants.{Terms, Store, C
 use Rattle.loda_mine.specs.declared.status.Status.{Status}
 use Rattle.loda_mine.specs.declared.status.Status.TheVariants.{Done, Usage, ReadFault, WriteFault, Memory}
 use Rattle.loda_mine.specs.declared.words.Task.{Task}
-use Rattle.loda_mine.specs.declared.words.Task.TheVariants.{Publish, Check, Eval}
+use Rattle.loda_mine.specs.declared.words.Task.TheVariants.{Publish, Check, Eval, Made}
 use Rattle.loda_mine.specs.Words.{Request}
 use Rattle.loda_mine.specs.Answer.{Found, terms_of, store_of, candidates_of, contents_of, IsDecided, Writes, IsAnswer}
 
@@ -158,11 +158,12 @@ Precedes earlier later = ⊥
 
 -- ---- completeness
 
--- the command is not refused: its opening store is sound, or its name is published
+-- the command is not refused: its opening store is sound, or its name is published; `made` never is
 abbrev pub IsReady : Task → ℕ → Contents → Type 0
 IsReady Publish limit contents = Sound contents.store (row_of contents.terms) limit
 IsReady Check limit contents = Sound contents.store (row_of contents.terms) limit
 IsReady (Eval name arg) limit contents = (e : Published) × (published_at contents.store name ≡ Some e)
+IsReady (Made n kind) limit contents = Unit {0}
 
 -- nothing fails: no file of the words, and not the sink
 pub record NothingFails (k k' : Known) (w w' : Written) (request : Request) : Type 0 where

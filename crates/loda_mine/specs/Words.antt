@@ -1,13 +1,13 @@
 -- The words of the command line, as bytes.
-use Rattle.std.specs.Prelude.{ℕ, ◌-◌, ◌^◌, List, [], ◌∷◌, length, drop, codes, bytes_eq, nat_eq, nat_le, nat_lt, ◌==◌, ◌&&◌, if◌then◌else◌, Bool, ⊤, ℤ, pos, neg_ℤ, Option, Some, None}
+use Rattle.std.specs.Prelude.{ℕ, ◌≤◌, ◌-◌, ◌^◌, List, [], ◌∷◌, length, drop, codes, bytes_eq, nat_eq, nat_le, nat_lt, ◌==◌, ◌&&◌, if◌then◌else◌, Bool, ⊤, ℤ, pos, neg_ℤ, Option, Some, None}
 use Rattle.std.specs.List.{starts_with, filter_map, list_all, list_any}
 use Rattle.std.specs.Option.{option_map}
-use Rattle.oeis_terms.specs.Numbers.{number_of}
-use Rattle.program_store.specs.Store.{IsName}
-use Rattle.program_store.specs.Headers.{name_read}
-use Rattle.program_store.specs.Sections.{begins_with}
+use Rattle.text_parts.specs.Digits.{decimal_of}
+use Rattle.text_parts.specs.Names.{IsName, name_read}
+use Rattle.loda_mine.specs.declared.words.Kind.{Kind}
+use Rattle.loda_mine.specs.declared.words.Kind.TheVariants as kinds
 use Rattle.loda_mine.specs.declared.words.Task.{Task}
-use Rattle.loda_mine.specs.declared.words.Task.TheVariants.{Publish, Check, Eval}
+use Rattle.loda_mine.specs.declared.words.Task.TheVariants.{Publish, Check, Eval, Made}
 
 -- What is asked for: the task, the paths of its files in the order of reading, and the step limit of a run. A file
 -- without a path is not read, and stands for no bytes.
@@ -51,10 +51,6 @@ has_only keys words = list_all (λ word. list_any (λ key. starts_with nat_eq wo
 
 -- ---- the forms of values
 
--- a decimal number without a sign or a leading 0
-abbrev pub decimal_read : List ℕ → Option ℕ
-decimal_read text = if begins_with 48 text && nat_lt 1 (length text) then None else number_of text
-
 -- a path isn't empty
 abbrev pub path_read : List ℕ → Option (List ℕ)
 path_read text = if length text == 0 then None else Some text
@@ -69,7 +65,7 @@ between least greatest n = if nat_le least n && nat_le n greatest then Some n el
 
 -- a decimal number from a least to a greatest one
 abbrev pub decimal_between : ℕ → ℕ → List ℕ → Option ℕ
-decimal_between least greatest text = decimal_read text >>= between least greatest
+decimal_between least greatest text = decimal_of text >>= between least greatest
 
 -- a step limit is from 1 to 10,000,000
 abbrev pub limit_read : List ℕ → Option ℕ
@@ -100,13 +96,26 @@ abbrev pub arg_read : List ℕ → Option ℤ
 arg_read [] = None
 arg_read (b ∷ bs) = if b == 45 then negative_read bs else positive_read (b ∷ bs)
 
+-- at most 20,000 names are made
+abbrev pub number_read : List ℕ → Option ℕ
+number_read text = decimal_between 1 20000 text
+
+-- what is made, by its word
+abbrev pub kind_read : List ℕ → Option Kind
+kind_read text =
+    if bytes_eq text (codes "terms") then Some kinds.Terms
+    else (if bytes_eq text (codes "store") then Some kinds.Store
+    else (if bytes_eq text (codes "cands") then Some kinds.Candidates
+    else (if bytes_eq text (codes "run") then Some kinds.Run else None)))
+
 -- ---- the commands
 
--- a task that runs a program has a program's name
-abbrev pub IsNamed : Task → Type 0
-IsNamed Publish = ⊤
-IsNamed Check = ⊤
-IsNamed (Eval name arg) = IsName name
+-- a task that runs a program has a program's name, and one that makes names has a number of them in its bounds
+abbrev pub IsInRange : Task → Type 0
+IsInRange Publish = ⊤
+IsInRange Check = ⊤
+IsInRange (Eval name arg) = IsName name
+IsInRange (Made n kind) = (1 ≤ n) × (n ≤ 20000)
 
 abbrev pub path_of : List ℕ → List (List ℕ) → Option (List ℕ)
 path_of key words = needed (values_of key words) >>= path_read
@@ -141,10 +150,18 @@ eval_of words =
     (store_path words >>= λ store. (needed (values_of (codes "name=") words) >>= name_read) >>= λ name. (needed (values_of (codes "arg=") words) >>= arg_read) >>= λ arg. limit_of words >>= λ limit.
     Some (record { task = Eval name arg; terms = None; store = store; candidates = None; limit = limit }))
 
+-- `made n= kind=`
+unfoldable pub made_of : List (List ℕ) → Option Request
+made_of words =
+    if_only (codes "n=" ∷ codes "kind=" ∷ []) words
+    ((needed (values_of (codes "n=") words) >>= number_read) >>= λ n. (needed (values_of (codes "kind=") words) >>= kind_read) >>= λ kind.
+    Some (record { task = Made n kind; terms = None; store = None; candidates = None; limit = default_limit }))
+
 -- The grammar of the words: a command, and then words `key=value` in any order.
 unfoldable pub request_of : List (List ℕ) → Option Request
 request_of [] = None
 request_of (command ∷ words) =
     if bytes_eq command (codes "publish") then publish_of words
     else (if bytes_eq command (codes "check") then check_of words
-    else (if bytes_eq command (codes "eval") then eval_of words else None))
+    else (if bytes_eq command (codes "eval") then eval_of words
+    else (if bytes_eq command (codes "made") then made_of words else None)))

@@ -29,8 +29,8 @@ fn write_counted(out: &mut Vec<u8>, word: &[u8], count: u64) -> Result<(), Alloc
     out.extend_from_slice(buffer.format(count).as_bytes())
 }
 
-// Adds a line of a word and a count.
-fn write_line(out: &mut Vec<u8>, word: &[u8], count: u64) -> Result<(), AllocError>
+/// Adds a line of a word and a count.
+pub fn write_line(out: &mut Vec<u8>, word: &[u8], count: u64) -> Result<(), AllocError>
     ensures { OnOk result (out.new.items ≡ out.old.items ++ count_line word.now count) }
 {
     write_counted(out, word, count)?;

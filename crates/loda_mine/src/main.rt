@@ -1,8 +1,10 @@
-//! Publishes, checks and runs programs for integer sequences.
+//! Publishes, checks and runs programs for integer sequences, and makes input.
 #![tactic(auto)]
 
 mod checking;
+mod ending;
 mod files;
+mod making;
 mod publishing;
 mod run;
 mod status;
@@ -11,6 +13,7 @@ mod tests;
 mod text;
 mod words;
 
+use ending::tell;
 use loda_io::{FileShelf, StdSink};
 use run::run_plain;
 use status::Status;
@@ -33,8 +36,5 @@ fn main(rt: HostRuntime) -> ExitCode {
         Err(error) if error.kind() == io::ErrorKind::OutOfMemory => Status::Memory,
         Err(_) => Status::Usage,
     };
-    if !matches!(status, Status::Done) {
-        let _ = eprintln!(rt; "loda_mine: {status}");
-    }
-    ExitCode::from(status.number())
+    ExitCode::from(tell(status, &mut rt.stderr()))
 }

@@ -7,13 +7,14 @@ ghost use Rattle.oeis_terms.specs.Table.{IsBounded};
 ghost use Rattle.loda_mine.specs.declared.files.Contents.{Contents as contents};
 ghost use Rattle.loda_mine.specs.declared.status.FileRole.{FileRole as file_role};
 ghost use Rattle.loda_mine.specs.declared.status.Status.{Status as status};
-ghost use Rattle.loda_mine.specs.Words.{Request as request, request_of};
+ghost use Rattle.loda_mine.specs.Words.{Request as request, request_of, IsInRange};
 ghost use Rattle.loda_mine.specs.Requests.{asked};
 ghost use Rattle.loda_mine.specs.Answer.{Found, contents_of, IsOutput, IsAnswer, bytes_in};
 ghost use Rattle.loda_mine.specs.Run.{Finds, RunsAs, FileFailed, path_at, Files, TellsAt, Tells, Exactly, stop_of, TellsTo, IsFirstStop, EndsSoOr, Precedes, IsReady, NothingFails, Opens, WritesAll, Headline, HasOneOutput};
 
 use crate::checking::{check, eval};
 use crate::files::{Contents, open};
+use crate::making::make;
 use crate::publishing::publish;
 use crate::status::Status;
 use crate::words::{Request, Task, request_of};
@@ -22,6 +23,7 @@ use std::alloc::Global;
 
 // The output of a command, by what stands in its files.
 fn output_of(alloc: Global, task: Task, limit: u64, contents: Contents) -> Result<Vec<u8>, Status>
+    requires range { IsInRange task }
     requires limit { (1 ≤ limit) × (limit ≤ 10000000) }
     requires bounded { IsBounded contents.terms }
     ensures { IsOutput task limit contents (bytes_in result) }
@@ -30,11 +32,13 @@ fn output_of(alloc: Global, task: Task, limit: u64, contents: Contents) -> Resul
         Task::Publish => publish(alloc, contents, limit),
         Task::Check => check(alloc, &contents, limit),
         Task::Eval { name, arg } => eval(alloc, &contents, name, arg, limit),
+        Task::Made { n, kind } => make(alloc, n, kind, limit),
     }
 }
 
 // The whole output, before any of it is written.
 fn prepare<F: Shelf>(alloc: Global, shelf: &mut F, request: &Request<'_>) -> Result<Vec<u8>, Status>
+    requires range { IsInRange request.now.task }
     requires limit { (1 ≤ request.now.limit) × (request.now.limit ≤ 10000000) }
     ensures kept { OnlyRead (F.known shelf.old) (F.known shelf.new) }
     ensures answer { (found : Found) × Finds (F.known shelf.old) (F.known shelf.new) (asked request.now) found
@@ -63,7 +67,7 @@ fn run<F: Shelf, K: Sink>(alloc: Global, words: &[String], shelf: &mut F, sink: 
 
 /// Reads the files that the words name, and writes what their command has for them.
 ///
-/// The commands are `publish`, `check` and `eval`. The files are read in the order terms, store, candidates, each whole and
+/// The commands are `publish`, `check`, `eval` and `made`. The files are read in the order terms, store, candidates, each whole and
 /// then parsed before the next is read. The whole output is made before the first write.
 pub fn run_plain<F: Shelf, K: Sink>(
     alloc: Global,

@@ -1,11 +1,10 @@
 //! How a run ends.
 
 ghost use Rattle.std.specs.Prelude.{◌≡◌};
-ghost use Rattle.loda_mine.specs.Answer.{status_of};
+ghost use Rattle.loda_mine.specs.Endings.{exit_number};
 
 use crate::text::Reason;
 use judge::{CheckError, Unsound};
-use loda_io::ReadError;
 use oeis_terms::TermsKind;
 use program_store::StoreKind;
 use publish_desk::OpenError;
@@ -110,21 +109,11 @@ impl From<OpenError> for Status {
     }
 }
 
-/// The status for a file that was not read.
-pub fn status_of(file: FileRole, error: ReadError) -> Status
-    ensures { result ≡ status_of file error }
-{
-    match error {
-        ReadError::Failed => Status::ReadFault { file },
-        ReadError::FileTooLarge { size } => Status::FileTooLarge { file, size },
-        ReadError::LineTooLong { line } => Status::LineTooLong { file, line },
-        ReadError::Memory => Status::Memory,
-    }
-}
-
 impl Status {
     /// The number that the program ends with.
-    pub fn number(self) -> u8 {
+    pub fn number(self) -> u8
+        ensures { result ≡ exit_number self }
+    {
         match self {
             Status::Usage => 2,
             Status::ReadFault { .. } => 3,

@@ -5,7 +5,6 @@ use crate::status::{FileRole, Status};
 use checked_numbers::Num;
 use judge::{Got, Unsound};
 use loda_io::{File, HonestShelf, MemoryShelf, MemorySink, Shelf};
-use loda_syntax::SyntaxKind;
 use oeis_terms::TermsKind;
 use program_store::StoreKind;
 use std::alloc::{AllocError, Global};
@@ -105,7 +104,7 @@ fn published(terms: &'static str, candidates: &'static str, output: &'static str
     }
 }
 
-const NEW_NAMES: [(&str, &str, &str); 9] = [
+const NEW_NAMES: [(&str, &str, &str); 10] = [
     // square-published
     (
         SQUARES,
@@ -155,6 +154,12 @@ const NEW_NAMES: [(&str, &str, &str); 9] = [
         "? A000290\nseq $0,290\n",
         "journal\njob 0 base 0 A000290 cycle A000290\nseq $0,290\nstore\nend jobs 1 version 0\n",
     ),
+    // each other fault in the place of a term
+    (
+        SQUARES,
+        "? A000290\nmov $0,2\npow $0,127\n? A000290\ndiv $0,0\n? A000290\nmov $0,-1\nmov $1,$$0\n",
+        "journal\njob 0 base 0 A000290 wrong 0 got overflow\nmov $0,2\npow $0,127\njob 1 base 0 A000290 wrong 0 got divide-by-zero\ndiv $0,0\njob 2 base 0 A000290 wrong 0 got bad-cell\nmov $0,-1\nmov $1,$$0\nstore\nend jobs 3 version 0\n",
+    ),
 ];
 
 #[test]
@@ -163,7 +168,7 @@ fn publishes_new_names(rt: HostRuntime) -> Result<(), Fail> {
 }
 
 // Terms, candidates, and the report.
-const REPLACEMENTS: [(&str, &str, &str); 5] = [
+const REPLACEMENTS: [(&str, &str, &str); 6] = [
     // broken-caller
     (
         BOTH,
@@ -194,6 +199,12 @@ const REPLACEMENTS: [(&str, &str, &str); 5] = [
         "? A000290\nmul $0,$0\n? A016742\nmul $0,2\nseq $0,290\n? A000290\nmul $0,$0\nadd $1,$0\n",
         "journal\njob 0 base 0 A000290 accepted 10\nmul $0,$0\njob 1 base 1 A016742 accepted 8\nmul $0,2\nseq $0,290\njob 2 base 2 A000290 costlier 0 was 1 now 2\nmul $0,$0\nadd $1,$0\nstore\n= A000290 10\nmul $0,$0\n= A016742 8\nmul $0,2\nseq $0,290\nend jobs 3 version 2\n",
     ),
+    // no value at a demanded argument: a program with a call of a missing name has no value at all
+    (
+        BOTH,
+        "? A000290\nmul $0,$0\n? A016742\nmul $0,2\nseq $0,290\n? A000290\nmov $1,$0\ntrn $1,9\nmul $1,127\nmov $2,2\npow $2,$1\nmul $0,$0\n? A000290\nmov $1,$0\ntrn $1,9\nmul $1,-1\nmov $2,$$1\nmul $0,$0\n? A000290\nmov $1,$0\ntrn $1,9\nmul $1,100000\nlpb $1\nsub $1,1\nlpe\nmul $0,$0\n",
+        "journal\njob 0 base 0 A000290 accepted 10\nmul $0,$0\njob 1 base 1 A016742 accepted 8\nmul $0,2\nseq $0,290\njob 2 base 2 A000290 broken 10 caller A016742 index 5 was 100 now overflow\nmov $1,$0\ntrn $1,9\nmul $1,127\nmov $2,2\npow $2,$1\nmul $0,$0\njob 3 base 2 A000290 broken 10 caller A016742 index 5 was 100 now bad-cell\nmov $1,$0\ntrn $1,9\nmul $1,-1\nmov $2,$$1\nmul $0,$0\njob 4 base 2 A000290 broken 10 caller A016742 index 5 was 100 now out-of-steps\nmov $1,$0\ntrn $1,9\nmul $1,100000\nlpb $1\n  sub $1,1\nlpe\nmul $0,$0\nstore\n= A000290 10\nmul $0,$0\n= A016742 8\nmul $0,2\nseq $0,290\nend jobs 5 version 2\n",
+    ),
 ];
 
 #[test]
@@ -201,7 +212,6 @@ fn judges_replacements(rt: HostRuntime) -> Result<(), Fail> {
     check_journals(&rt, rt.alloc(), &REPLACEMENTS)
 }
 
-// more-terms-checked
 // Rows with words of their own.
 const OTHER_WORDS: [Row; 4] = [
     // more-terms-checked
@@ -555,8 +565,47 @@ fn failing_ends(rt: HostRuntime) -> Result<(), Fail> {
     Ok(())
 }
 
+// A call of the shelf that fails, the words, and the status. Each file that is read takes two calls, and `store=-` none.
+const FAILING_CALLS: [(u64, &[&str], Status); 5] = [
+    (
+        3,
+        PUBLISH,
+        Status::ReadFault {
+            file: FileRole::Candidates,
+        },
+    ),
+    (4, PUBLISH, Status::Done),
+    (2, &["check", "terms=t", "store=-"], Status::Done),
+    (
+        2,
+        CHECK,
+        Status::ReadFault {
+            file: FileRole::Store,
+        },
+    ),
+    (
+        0,
+        &["eval", "store=-", "name=A000003", "arg=0"],
+        Status::Absent { name: 3 },
+    ),
+];
+
+#[test]
+fn counts_calls_of_the_shelf(rt: HostRuntime) -> Result<(), Fail> {
+    let alloc = rt.alloc();
+    let row = published(SQUARES, SQUARE, SQUARE_REPORT);
+    for (call, words, wanted) in FAILING_CALLS {
+        let words = words_of(alloc, words)?;
+        let mut shelf = MemoryShelf::new(files(alloc, &row)?, Vec::from_slice(alloc, &[call])?);
+        let mut sink = MemorySink::new(alloc, 1_000, 1_000, Vec::new(alloc), Vec::new(alloc))?;
+        let status = run_plain(alloc, &words, &mut shelf, &mut sink);
+        assert_eq!(rt; status, wanted);
+    }
+    Ok(())
+}
+
 // Words that are in no command's grammar.
-const NO_WORDS: [&[&str]; 19] = [
+const NO_WORDS: [&[&str]; 25] = [
     &[],
     &[
         "mine",
@@ -578,6 +627,12 @@ const NO_WORDS: [&[&str]; 19] = [
     &["publish", "terms=t", "store=-", "cands=c", "steps=10000001"],
     &["publish", "terms=t", "store=-", "cands=c", "steps=+5"],
     &["check", "terms=t", "store=-", "cands=c"],
+    &["made", "n=0", "kind=run"],
+    &["made", "n=20001", "kind=run"],
+    &["made", "n=03", "kind=run"],
+    &["made", "n=3", "kind=rows"],
+    &["made", "n=3"],
+    &["made", "n=3", "kind=run", "steps=5"],
     &["eval", "store=-", "name=A000000", "arg=0"],
     &["eval", "store=-", "name=A00045", "arg=0"],
     &["eval", "store=-", "name=A000045", "arg=-0"],
@@ -604,157 +659,58 @@ fn refuses_words(rt: HostRuntime) -> Result<(), Fail> {
     Ok(())
 }
 
-// Each kind of status, its number and its text.
-const TEXTS: [(Status, u8, &str); 21] = [
-    (Status::Usage, 2, "usage"),
+// The words, and what is made.
+const MADE: [(&[&str], &str); 4] = [
+    // made-run
     (
-        Status::ReadFault {
-            file: FileRole::Terms,
-        },
-        3,
-        "cannot read terms",
+        &["made", "n=25", "kind=run"],
+        "made 25\nrows 25\njobs 50\naccepted 47\nno-gain 3\nversion 47\n",
     ),
     (
-        Status::ReadFault {
-            file: FileRole::Store,
-        },
-        3,
-        "cannot read store",
+        &["made", "kind=terms", "n=2"],
+        "A000001 ,0,1,2,3,4,5,6,7,8,9,\nA000002 ,1,3,5,7,9,11,13,15,17,19,\n",
     ),
     (
-        Status::ReadFault {
-            file: FileRole::Candidates,
-        },
-        3,
-        "cannot read candidates",
-    ),
-    (Status::WriteFault, 4, "cannot write"),
-    (
-        Status::FileTooLarge {
-            file: FileRole::Terms,
-            size: 268_435_457,
-        },
-        5,
-        "terms too large at byte 268435457",
+        &["made", "n=2", "kind=store"],
+        "= A000001 10\nmul $0,1\nadd $0,0\n= A000002 10\nmov $1,$0\nseq $0,1\nadd $0,$1\nadd $0,1\n",
     ),
     (
-        Status::LineTooLong {
-            file: FileRole::Terms,
-            line: 3,
-        },
-        6,
-        "terms line 3 too long",
+        &["made", "n=2", "kind=cands"],
+        "? A000001\nmul $0,1\nadd $0,0\n? A000002\nmov $1,$0\nseq $0,1\nadd $0,$1\nadd $0,1\n? A000001\nmul $0,1\nadd $0,0\n? A000002\nmul $0,2\nadd $0,1\n",
     ),
-    (
-        Status::BadTerms {
-            line: 3,
-            kind: TermsKind::BadName,
-        },
-        7,
-        "terms line 3: bad-name",
-    ),
-    (
-        Status::BadTerms {
-            line: 3,
-            kind: TermsKind::NoComma,
-        },
-        7,
-        "terms line 3: no-comma",
-    ),
-    (
-        Status::BadTerms {
-            line: 3,
-            kind: TermsKind::BadTerm { column: 12 },
-        },
-        7,
-        "terms line 3: bad-term column 12",
-    ),
-    (
-        Status::BadTerms {
-            line: 3,
-            kind: TermsKind::Repeated { name: 290 },
-        },
-        7,
-        "terms line 3: repeated A000290",
-    ),
-    (
-        Status::BadStore {
-            line: 3,
-            kind: StoreKind::BadHeader,
-        },
-        8,
-        "store line 3: bad-header",
-    ),
-    (
-        Status::BadStore {
-            line: 3,
-            kind: StoreKind::OutOfOrder,
-        },
-        8,
-        "store line 3: out-of-order",
-    ),
-    (
-        Status::BadStore {
-            line: 3,
-            kind: StoreKind::Syntax(SyntaxKind::UnknownOp),
-        },
-        8,
-        "store line 3: unknown-op",
-    ),
-    (
-        Status::BadCandidates {
-            line: 3,
-            kind: StoreKind::TooMany,
-        },
-        9,
-        "candidates line 3: too-many",
-    ),
-    (
-        Status::Unsound(Unsound::Cycle { through: 1 }),
-        10,
-        "unsound: cycle through A000001",
-    ),
-    (
-        Status::Unsound(Unsound::NoRow { name: 290 }),
-        10,
-        "unsound: A000290 has no row",
-    ),
-    (
-        Status::Unsound(Unsound::Count {
-            name: 290,
-            checked: 11,
-            usable: 10,
-        }),
-        10,
-        "unsound: A000290 checked 11 usable 10",
-    ),
-    (
-        Status::Unsound(Unsound::Unmet {
-            name: 290,
-            index: 9,
-            got: Got::OutOfSteps,
-        }),
-        10,
-        "unsound: A000290 index 9 got out-of-steps",
-    ),
-    (Status::Memory, 11, "out of memory"),
-    (Status::Absent { name: 3 }, 12, "no program A000003"),
 ];
 
 #[test]
-fn tells_each_status(rt: HostRuntime) -> Result<(), Fail> {
+fn makes_input(rt: HostRuntime) -> Result<(), Fail> {
     let alloc = rt.alloc();
-    for (status, number, text) in TEXTS {
-        let told = status.to_string(alloc)?;
-        assert_eq!(rt; told.as_str(), text);
-        assert_eq!(rt; status.number(), number);
+    for (words, output) in MADE {
+        check_row(&rt, alloc, &evaluated(words, "", "", output))?;
     }
-    let Some(got) = Num::new(72) else {
-        return Err(Fail::new("72 is a number"));
-    };
-    let told = unmet(got).to_string(alloc)?;
-    assert_eq!(rt; told.as_str(), "unsound: A000290 index 9 got 72");
-    assert_eq!(rt; Status::Done.number(), 0);
+    Ok(())
+}
+
+// What is written for these words over these files.
+fn written(alloc: Global, words: &[&str], files: Vec<File>) -> Result<Vec<u8>, AllocError> {
+    let words = words_of(alloc, words)?;
+    let mut shelf = MemoryShelf::new(files, Vec::new(alloc));
+    let mut sink = MemorySink::new(alloc, 10_000, 10_000, Vec::new(alloc), Vec::new(alloc))?;
+    let _ = run_plain(alloc, &words, &mut shelf, &mut sink);
+    Vec::from_slice(alloc, sink.bytes())
+}
+
+const MADE_REPORT: &str =
+    "journal\njob 0 base 0 A000001 accepted 10\nmul $0,1\nadd $0,0\njob 1 base 1 A000002 accepted 10\nmov $1,$0\nseq $0,1\nadd $0,$1\nadd $0,1\njob 2 base 2 A000003 accepted 10\nmov $1,$0\nseq $0,2\nadd $0,$1\nadd $0,1\njob 3 base 3 A000001 no-gain\nmul $0,1\nadd $0,0\njob 4 base 3 A000002 accepted 10\nmul $0,2\nadd $0,1\njob 5 base 4 A000003 accepted 10\nmul $0,3\nadd $0,2\nstore\n= A000001 10\nmul $0,1\nadd $0,0\n= A000002 10\nmul $0,2\nadd $0,1\n= A000003 10\nmul $0,3\nadd $0,2\nend jobs 6 version 5\n";
+
+#[test]
+fn made_input_is_published(rt: HostRuntime) -> Result<(), Fail> {
+    let alloc = rt.alloc();
+    let terms = written(alloc, &["made", "n=3", "kind=terms"], Vec::new(alloc))?;
+    let candidates = written(alloc, &["made", "n=3", "kind=cands"], Vec::new(alloc))?;
+    let mut files = Vec::new(alloc);
+    files.push(File::of(String::from_str(alloc, "t")?, terms))?;
+    files.push(File::of(String::from_str(alloc, "c")?, candidates))?;
+    let report = written(alloc, PUBLISH, files)?;
+    assert_eq!(rt; report.as_slice(), MADE_REPORT.as_bytes());
     Ok(())
 }
 

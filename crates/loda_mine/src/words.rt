@@ -1,15 +1,14 @@
 //! The words of the command line.
 
-ghost use Rattle.std.specs.Prelude.{◌≡◌, ◌<◌, ◌≤◌, map, min, nat_eq, string_bytes, codes, bytes_eq, IfSome};
+ghost use Rattle.std.specs.Prelude.{◌≡◌, ◌<◌, ◌≤◌, ◌^◌, map, nat_eq, string_bytes, codes, bytes_eq, IfSome};
 ghost use Rattle.std.specs.List.{starts_with, list_any};
 ghost use Rattle.std.specs.Option.{option_map};
-ghost use Rattle.oeis_terms.specs.Numbers.{limit};
-ghost use Rattle.loda_mine.specs.Words.{value_in, values_of, optional, needed, has_only, decimal_read, path_read, store_path_read, decimal_between, limit_read, negative_read, positive_read, arg_read, path_of, store_path, limit_of, publish_of, check_of, eval_of, request_of, IsNamed};
+ghost use Rattle.text_parts.specs.Digits.{decimal_of};
+ghost use Rattle.loda_mine.specs.Words.{value_in, values_of, optional, needed, has_only, path_read, store_path_read, decimal_between, limit_read, negative_read, positive_read, arg_read, path_of, store_path, limit_of, number_read, kind_read, publish_of, check_of, eval_of, made_of, request_of, IsInRange};
 ghost use Rattle.loda_mine.specs.Requests.{asked};
 
 use checked_numbers::Num;
-use oeis_terms::magnitude;
-use program_store::name_of;
+use text_parts::{decimal_up_to, name_of};
 
 /// What a command does.
 #[derive(Clone, Copy, Debug, PartialEq, Eq)]
@@ -20,6 +19,21 @@ pub enum Task {
     Check,
     /// Runs a program of the store.
     Eval { name: u32, arg: Num },
+    /// Makes input of so many names.
+    Made { n: u32, kind: Kind },
+}
+
+/// What is made.
+#[derive(Clone, Copy, Debug, PartialEq, Eq)]
+pub enum Kind {
+    /// A terms file.
+    Terms,
+    /// A store file.
+    Store,
+    /// A candidates file.
+    Candidates,
+    /// A summary of publishing the made candidates against the made terms.
+    Run,
 }
 
 /// What is asked for: the task, the paths of its files, and the step limit of a run.
@@ -37,8 +51,14 @@ const DEFAULT_LIMIT: u64 = 100_000;
 
 const GREATEST_LIMIT: u128 = 10_000_000;
 
+// The greatest number of names that are made.
+const GREATEST_MADE: u128 = 20_000;
+
 // The greatest absolute value of a number.
-const GREATEST: u128 = (1 << 127) - 1;
+const GREATEST: u128 = WIDE - 1;
+
+// The first absolute value past the number range.
+const WIDE: u128 = 1 << 127;
 
 // The value of a word with this key.
 fn value_in<'a>(key: &str, word: &'a str) -> Option<&'a str>
@@ -91,23 +111,13 @@ fn needed<'a>(key: &str, words: &'a [String]) -> Option<&'a str>
     optional(key, words)?
 }
 
-// A decimal number without a sign or a leading 0, or 2^127 where it is no less.
-fn decimal(text: &[u8]) -> Option<u128>
-    ensures { result ≡ option_map (λ n. min n limit) (decimal_read text.now) }
-{
-    if text.len() > 1 && text[0] == b'0' {
-        return None;
-    }
-    magnitude(text)
-}
-
 // A decimal number, where it is from `least` to `most`.
 fn decimal_between(text: &[u8], least: u128, most: u128) -> Option<u128>
-    requires { most < limit }
+    requires { most < 2 ^ 127 }
     ensures value { result ≡ decimal_between least most text.now }
     ensures bounds { IfSome result (λ number. (least ≤ number) × (number ≤ most)) }
 {
-    let number = decimal(text)?;
+    let number = decimal_up_to(text, WIDE)?;
     if number < least || number > most {
         return None;
     }
@@ -147,6 +157,34 @@ fn arg_value(text: &str) -> Option<Num>
         [b'-', digits @ ..] => negative_value(digits),
         digits => positive_value(digits),
     }
+}
+
+// How many names are made.
+fn number_value(text: &str) -> Option<u32>
+    ensures value { result ≡ number_read text.now }
+    ensures bounds { IfSome result (λ n. (1 ≤ n) × (n ≤ 20000)) }
+{
+    let n = decimal_between(text.as_bytes(), 1, GREATEST_MADE)?;
+    Some(n as u32)
+}
+
+// What is made.
+fn kind_value(text: &str) -> Option<Kind>
+    ensures { result ≡ kind_read text.now }
+{
+    if text == "terms" {
+        return Some(Kind::Terms);
+    }
+    if text == "store" {
+        return Some(Kind::Store);
+    }
+    if text == "cands" {
+        return Some(Kind::Candidates);
+    }
+    if text == "run" {
+        return Some(Kind::Run);
+    }
+    None
 }
 
 fn path_value(text: &str) -> Option<&str>
@@ -192,7 +230,7 @@ fn limit_of(words: &[String]) -> Option<u64>
 fn publish_of(words: &[String]) -> Option<Request<'_>>
     ensures value { option_map asked result ≡ publish_of (map string_bytes words.now) }
     ensures bounds { IfSome result (λ request. (1 ≤ request.limit) × (request.limit ≤ 10000000)) }
-    ensures named { IfSome result (λ request. IsNamed request.task) }
+    ensures range { IfSome result (λ request. IsInRange request.task) }
 {
     if !has_only(&["terms=", "store=", "cands=", "steps="], words) {
         return None;
@@ -215,7 +253,7 @@ fn publish_of(words: &[String]) -> Option<Request<'_>>
 fn check_of(words: &[String]) -> Option<Request<'_>>
     ensures value { option_map asked result ≡ check_of (map string_bytes words.now) }
     ensures bounds { IfSome result (λ request. (1 ≤ request.limit) × (request.limit ≤ 10000000)) }
-    ensures named { IfSome result (λ request. IsNamed request.task) }
+    ensures range { IfSome result (λ request. IsInRange request.task) }
 {
     if !has_only(&["terms=", "store=", "steps="], words) {
         return None;
@@ -237,7 +275,7 @@ fn check_of(words: &[String]) -> Option<Request<'_>>
 fn eval_of(words: &[String]) -> Option<Request<'_>>
     ensures value { option_map asked result ≡ eval_of (map string_bytes words.now) }
     ensures bounds { IfSome result (λ request. (1 ≤ request.limit) × (request.limit ≤ 10000000)) }
-    ensures named { IfSome result (λ request. IsNamed request.task) }
+    ensures range { IfSome result (λ request. IsInRange request.task) }
 {
     if !has_only(&["store=", "name=", "arg=", "steps="], words) {
         return None;
@@ -255,12 +293,33 @@ fn eval_of(words: &[String]) -> Option<Request<'_>>
     })
 }
 
+// What `made` asks for.
+#[tactic(auto, unfolding(crate::specs::Words::made_of))]
+fn made_of(words: &[String]) -> Option<Request<'_>>
+    ensures value { option_map asked result ≡ made_of (map string_bytes words.now) }
+    ensures bounds { IfSome result (λ request. (1 ≤ request.limit) × (request.limit ≤ 10000000)) }
+    ensures range { IfSome result (λ request. IsInRange request.task) }
+{
+    if !has_only(&["n=", "kind="], words) {
+        return None;
+    }
+    let n = number_value(needed("n=", words)?)?;
+    let kind = kind_value(needed("kind=", words)?)?;
+    Some(Request {
+        task: Task::Made { n, kind },
+        terms: None,
+        store: None,
+        candidates: None,
+        limit: DEFAULT_LIMIT,
+    })
+}
+
 /// What is asked for, if the words are in the grammar.
 #[tactic(auto, unfolding(crate::specs::Words::request_of))]
 pub fn request_of(words: &[String]) -> Option<Request<'_>>
     ensures value { option_map asked result ≡ request_of (map string_bytes words.now) }
     ensures bounds { IfSome result (λ request. (1 ≤ request.limit) × (request.limit ≤ 10000000)) }
-    ensures named { IfSome result (λ request. IsNamed request.task) }
+    ensures range { IfSome result (λ request. IsInRange request.task) }
 {
     let [command, words @ ..] = words else {
         return None;
@@ -273,6 +332,9 @@ pub fn request_of(words: &[String]) -> Option<Request<'_>>
     }
     if command.as_str() == "eval" {
         return eval_of(words);
+    }
+    if command.as_str() == "made" {
+        return made_of(words);
     }
     None
 }
