@@ -4,14 +4,14 @@ use Rattle.std.proofs.lemmas.List.Elements.{Contains-push_cases}
 use Rattle.indexmap.specs.IndexSet.{insert_key}
 use Rattle.loda_semantics.specs.Exec.{Library}
 use Rattle.program_store.specs.Graph.{Reaches}
-use Rattle.call_graph.specs.Closure.{HasCallsOf, IsClosed, ReachedFrom}
+use Rattle.call_graph.specs.Closure.{HasCallsOf, HasItsCalls, ReachedFrom}
 use Rattle.call_graph.proofs.Paths.{stays, reach_self}
 use Rattle.call_graph.proofs.Sets.{insert_key-has, insert_key-cases, insert_key-kept, insert_key-take}
 
 -- no name seen, and no name tried, reaches the target, and what is seen is closed
 pub record IsBarren (lib : Library) (target : ℕ) (seen : List ℕ) (tried : List ℕ) : Type 0 where
   pub apart : (s : ℕ) → Contains seen s → Reaches lib s target → ⊥
-  pub closed : IsClosed lib seen
+  pub closed : HasItsCalls lib seen
   pub without : (n : ℕ) → Contains tried n → Reaches lib n target → ⊥
 
 module _ (lib : Library) (target : ℕ) where
@@ -37,7 +37,7 @@ module _ (lib : Library) (target : ℕ) where
             | inr same ↦ subst (λ s. Reaches lib s target) (sym same) from.2
           ]
 
-      pub barren-more : IsClosed lib new → (Contains new target → ⊥) → IsBarren lib target new (tried ++ name ∷ [])
+      pub barren-more : HasItsCalls lib new → (Contains new target → ⊥) → IsBarren lib target new (tried ++ name ∷ [])
       barren-more closed none = record {
         apart = λ s there path. none (stays lib new closed s target there path);
         closed = closed;

@@ -7,7 +7,7 @@ use Rattle.indexmap.specs.IndexSet.{insert_all}
 use Rattle.loda_syntax.specs.Programs.{Text}
 use Rattle.loda_semantics.specs.Exec.{Library}
 use Rattle.program_store.specs.Graph.{calls_of}
-use Rattle.call_graph.specs.Closure.{HasCallsOf, IsClosed, ReachedFrom}
+use Rattle.call_graph.specs.Closure.{HasCallsOf, HasItsCalls, ReachedFrom}
 use Rattle.call_graph.proofs.Paths.{stays, reach_call, reach_self}
 use Rattle.call_graph.proofs.Sets.{insert_all-grows, insert_all-kept, insert_all-has, insert_all-cases}
 
@@ -71,7 +71,7 @@ module _ (lib : Library) (first : List ℕ) where
     }
 
   module _ (names : List ℕ) (at : ℕ) (le : length names ≤ at) (grown : IsGrown lib first names at) where
-    pub grown-closed : IsClosed lib names
+    pub grown-closed : HasItsCalls lib names
     grown-closed q there = grown.covered q (subst (λ l. Contains l q) (sym (take_all at names le)) there)
 
     pub grown-reached : (q : ℕ) → Contains names q ↔ ReachedFrom lib first q

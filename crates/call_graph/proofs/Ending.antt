@@ -8,7 +8,7 @@ use Rattle.std.proofs.lemmas.Map.Keys.{apart_from_distinct}
 use Rattle.indexmap.specs.IndexSet.{insert_all}
 use Rattle.loda_semantics.specs.Exec.{Library}
 use Rattle.program_store.specs.Graph.{Reaches, OnCycle}
-use Rattle.call_graph.specs.Closure.{Calls, IsClosed}
+use Rattle.call_graph.specs.Closure.{CallsName, HasItsCalls}
 use Rattle.call_graph.specs.Groups.{IsLeft, IsMet, IsGrouped}
 use Rattle.call_graph.specs.Walks.{IsLoop, AddsLoop}
 use Rattle.call_graph.specs.declared.groups.Frame.{Frame}
@@ -57,7 +57,7 @@ apart-at xs distinct i j lt high same =
 
 module _ (lib : Library) (done stack rest : List ℕ) (f : Frame) (fs : List Frame) (distinct : IsDistinct nat_eq stack)
     (here : f.place < length stack) (falls : Falls (f ∷ fs)) (grouped : IsGrouped lib done stack (f.place ∷ rest))
-    (pending : (j : ℕ) → j < length stack → (n : ℕ) → Calls lib (get_or stack j 0) n → IsMet done stack (f.place ∷ rest) j n ⊎ IsLeftAt lib stack fs j n) where
+    (pending : (j : ℕ) → j < length stack → (n : ℕ) → CallsName lib (get_or stack j 0) n → IsMet done stack (f.place ∷ rest) j n ⊎ IsLeftAt lib stack fs j n) where
   abbrev place : ℕ
   place = f.place
 
@@ -68,7 +68,7 @@ module _ (lib : Library) (done stack rest : List ℕ) (f : Frame) (fs : List Fra
   all = insert_all nat_eq done group
 
   -- each call of the group leads to a name that is done or to the group
-  calls-stay : (k : ℕ) → place ≤ k → k < length stack → (n : ℕ) → Calls lib (get_or stack k 0) n
+  calls-stay : (k : ℕ) → place ≤ k → k < length stack → (n : ℕ) → CallsName lib (get_or stack k 0) n
       → Contains done n ⊎ ((m : ℕ) × (place ≤ m) × (m < length stack) × (get_or stack m 0 ≡ n))
   calls-stay k le lt n call =
       elim (pending k lt n call) [
@@ -80,13 +80,13 @@ module _ (lib : Library) (done stack rest : List ℕ) (f : Frame) (fs : List Fra
         | inr left ↦ let under : left.0.place < place = falls.0 left.0 left.1 in let e : left.0.place ≡ k = left.2 in absurd (omega arith)
       ]
 
-  all-closed : IsClosed lib all
+  all-closed : HasItsCalls lib all
   all-closed q there p e n call =
       elim (insert_all-cases done group q there) [
         | inl h ↦ insert_all-kept done group n (grouped.closed q h p e n call)
         | inr h ↦
             let k = back-place stack place q h in
-            elim (calls-stay k.0 k.1 k.2 n (subst (λ x. Calls lib x n) (sym k.3) (p, e, call))) [
+            elim (calls-stay k.0 k.1 k.2 n (subst (λ x. CallsName lib x n) (sym k.3) (p, e, call))) [
               | inl old ↦ insert_all-kept done group n old
               | inr m ↦ insert_all-has done group n (subst (Contains group) m.3 (back-has stack place m.0 m.1 m.2))
             ]
@@ -161,7 +161,7 @@ module _ (lib : Library) (done stack rest : List ℕ) (f : Frame) (fs : List Fra
         let len : length (take place stack) ≡ place = front-len in
         let lt : j < place = omega arith in
         let j-in : j < length stack = omega arith in
-        elim (pending j j-in n (subst (λ q. Calls lib q n) (front-at j lt) call)) [
+        elim (pending j j-in n (subst (λ q. CallsName lib q n) (front-at j lt) call)) [
           | inl met ↦ inl (ended-met j n lt met)
           | inr left ↦ inr (left.0, left.1, left.2, subst (λ q. IsLeft lib q left.0.next n) (sym (front-at j lt)) left.3)
         ];
@@ -212,7 +212,7 @@ module _ (lib : Library) (done stack rest : List ℕ) (f : Frame) (fs : List Fra
                   | inl many ↦ (let len : length group ≡ length stack - place = len-group in let some : 1 < length group = many in absurd (omega arith))
                   | inr call ↦ (
                       let e : place ≡ k = omega arith in
-                      let itself : Calls lib (get_or stack place 0) (get_or stack place 0) = subst (λ x. Calls lib x x) group-first call in
+                      let itself : CallsName lib (get_or stack place 0) (get_or stack place 0) = subst (λ x. CallsName lib x x) group-first call in
                       subst (λ i. OnCycle lib (get_or stack i 0)) e (itself.0, itself.1, (get_or stack place 0, itself.2, reach_self lib (get_or stack place 0))))
                 ]
           ]
@@ -239,7 +239,7 @@ module _ (lib : Library) (done stack rest : List ℕ) (f : Frame) (fs : List Fra
                       let e' : k ≡ place = omega arith in
                       let same : next ≡ get_or stack place 0 = sym m.3 ∙ ap (λ i. get_or stack i 0) e in
                       let first : name ≡ get_or group 0 0 = ap (λ i. get_or stack i 0) e' ∙ sym group-first in
-                      not-loop (inr (subst₂ (Calls lib) first (same ∙ sym group-first) (cycle.0, cycle.1, cycle.2.1))))
+                      not-loop (inr (subst₂ (CallsName lib) first (same ∙ sym group-first) (cycle.0, cycle.1, cycle.2.1))))
                 ]
           ]
 

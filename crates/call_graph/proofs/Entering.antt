@@ -5,7 +5,7 @@ use Rattle.std.proofs.lemmas.List.{get_or_append_left, get_or_push, length_push}
 use Rattle.std.proofs.lemmas.List.Elements.{Contains-push_cases}
 use Rattle.loda_semantics.specs.Exec.{Library}
 use Rattle.program_store.specs.Graph.{Reaches}
-use Rattle.call_graph.specs.Closure.{Calls}
+use Rattle.call_graph.specs.Closure.{CallsName}
 use Rattle.call_graph.specs.Groups.{IsLeft, IsUpTo, IsMet, IsGrouped}
 use Rattle.call_graph.specs.Walks.{frame}
 use Rattle.call_graph.specs.declared.groups.Frame.{Frame}
@@ -91,16 +91,16 @@ module _ (lib : Library) (done stack starts : List ℕ) (name : ℕ) (below : (b
 
   module _ (path : List Frame) (falls : Falls path) (within : (f : Frame) → Contains path f → f.place < length stack)
       (started : (b : ℕ) → Contains starts b → (f : Frame) × Contains path f × (f.place ≡ b))
-      (pending : (j : ℕ) → j < length stack → (n : ℕ) → Calls lib (get_or stack j 0) n → IsMet done stack starts j n ⊎ ((name ≡ n) ⊎ IsLeftAt lib stack path j n)) where
+      (pending : (j : ℕ) → j < length stack → (n : ℕ) → CallsName lib (get_or stack j 0) n → IsMet done stack starts j n ⊎ ((name ≡ n) ⊎ IsLeftAt lib stack path j n)) where
     abbrev top : Frame
     top = frame (length stack) 0
 
-    entered-pending : (j : ℕ) → j < length more → (n : ℕ) → Calls lib (get_or more j 0) n
+    entered-pending : (j : ℕ) → j < length more → (n : ℕ) → CallsName lib (get_or more j 0) n
         → IsMet done more (length stack ∷ starts) j n ⊎ IsLeftAt lib more (top ∷ path) j n
     entered-pending j low n call =
         elim (cases_lt j (length stack)) [
           | inl lt ↦
-              elim (pending j lt n (subst (λ q. Calls lib q n) (at-old j lt) call)) [
+              elim (pending j lt n (subst (λ q. CallsName lib q n) (at-old j lt) call)) [
                 | inl met ↦ inl (met-more j n lt met)
                 | inr rest ↦
                     elim rest [

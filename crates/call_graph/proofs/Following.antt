@@ -7,7 +7,7 @@ use Rattle.loda_syntax.specs.declared.instr.Instr.TheVariants.{Arith, Clear, Loo
 use Rattle.loda_syntax.specs.Programs.{Text}
 use Rattle.loda_semantics.specs.Exec.{Library}
 use Rattle.program_store.specs.Graph.{called_by}
-use Rattle.call_graph.specs.Closure.{Calls}
+use Rattle.call_graph.specs.Closure.{CallsName}
 use Rattle.call_graph.specs.Groups.{IsLeft, IsMet, IsKnown, IsGrouped, IsFollowed}
 use Rattle.call_graph.proofs.Joining.{met-fewer, joined}
 use Rattle.call_graph.proofs.Sets.{cons-cases, cons-here, cons-more}
@@ -61,12 +61,12 @@ module _ (lib : Library) (done stack starts : List ℕ) (place : ℕ) (text : Te
       ]
 
   module _ (at name : ℕ) (here : called_by (drop at text) ≡ name ∷ called_by (drop (at + 1) text)) where
-    pub called-here : Calls lib from name
+    pub called-here : CallsName lib from name
     called-here = (text, has, called-drop text at name (subst (λ l. Contains l name) (sym here) (cons-here name (called_by (drop (at + 1) text)))))
 
     -- up to a name, which is left with the calls behind it
     pub followed-up_to : IsFollowed lib done stack starts place at
-        → (n : ℕ) → Calls lib from n → IsMet done stack starts place n ⊎ ((name ≡ n) ⊎ IsLeft lib from (at + 1) n)
+        → (n : ℕ) → CallsName lib from n → IsMet done stack starts place n ⊎ ((name ≡ n) ⊎ IsLeft lib from (at + 1) n)
     followed-up_to followed n call =
         elim (followed n call) [
           | inl met ↦ inl met
@@ -99,7 +99,7 @@ module _ (lib : Library) (done stack starts : List ℕ) (place : ℕ) (text : Te
       known-grouped new known =
           elim known [
             | inl old ↦ subst (λ l. IsGrouped lib done stack l) (sym old.1) grouped
-            | inr k ↦ joined lib done stack starts new grouped place k.0 within k.1 last (subst (λ q. Calls lib from q) (sym k.2) called-here) k.3
+            | inr k ↦ joined lib done stack starts new grouped place k.0 within k.1 last (subst (λ q. CallsName lib from q) (sym k.2) called-here) k.3
           ]
 
       pub known-followed : (new : List ℕ) → IsKnown done stack starts new name → IsFollowed lib done stack new place (at + 1)
@@ -113,7 +113,7 @@ module _ (lib : Library) (done stack starts : List ℕ) (place : ℕ) (text : Te
               ]
 
   -- at the end of the text nothing is left
-  pub followed-all : (at : ℕ) → length text ≤ at → IsFollowed lib done stack starts place at → (n : ℕ) → Calls lib from n → IsMet done stack starts place n
+  pub followed-all : (at : ℕ) → length text ≤ at → IsFollowed lib done stack starts place at → (n : ℕ) → CallsName lib from n → IsMet done stack starts place n
   followed-all at le followed n call =
       elim (followed n call) [
         | inl met ↦ met
@@ -124,7 +124,7 @@ module _ (lib : Library) (done stack starts : List ℕ) (place : ℕ) (text : Te
       none there = absurd (omega arith)
 
 -- a name with no program calls nothing
-pub followed-none : (lib : Library) (done stack starts : List ℕ) (place : ℕ) → lib (get_or stack place 0) ≡ None → (n : ℕ) → Calls lib (get_or stack place 0) n → IsMet done stack starts place n
+pub followed-none : (lib : Library) (done stack starts : List ℕ) (place : ℕ) → lib (get_or stack place 0) ≡ None → (n : ℕ) → CallsName lib (get_or stack place 0) n → IsMet done stack starts place n
 followed-none lib done stack starts place none n call = nothing (sym none ∙ call.1)
   where
     nothing : {A : Type 0} → None ≡ Some call.0 → A

@@ -5,8 +5,8 @@ use Rattle.std.proofs.lemmas.Option.{slice_get_cases}
 use Rattle.std.proofs.lemmas.Bool.{cases_lt}
 use Rattle.loda_semantics.specs.Exec.{Library}
 use Rattle.program_store.specs.Graph.{Reaches}
-use Rattle.call_graph.specs.Closure.{Calls}
-use Rattle.call_graph.specs.Groups.{Descends, IsUpTo, IsMet, IsCut, IsGrouped}
+use Rattle.call_graph.specs.Closure.{CallsName}
+use Rattle.call_graph.specs.Groups.{Descends, IsUpTo, IsMet, AreCutStarts, IsGrouped}
 use Rattle.call_graph.proofs.Paths.{reach_call, reach_trans}
 use Rattle.call_graph.proofs.Sets.{cons-cases, cons-more}
 
@@ -31,14 +31,14 @@ module _ (old : List ℕ) (k : ℕ) where
     from = λ c there. cutting.from c (cons-more b bs c there);
   }
 
-  pub cut-none : IsCutting old k [] → IsCut old k []
+  pub cut-none : IsCutting old k [] → AreCutStarts old k []
   cut-none cutting = record {
     descends = cutting.descends;
     kept = cutting.kept;
     cut = λ b there. absurd (omega arith);
   }
 
-  pub cut-at : (b : ℕ) (bs : List ℕ) → b ≤ k → IsCutting old k (b ∷ bs) → IsCut old k (b ∷ bs)
+  pub cut-at : (b : ℕ) (bs : List ℕ) → b ≤ k → IsCutting old k (b ∷ bs) → AreCutStarts old k (b ∷ bs)
   cut-at b bs le cutting = record {
     descends = cutting.descends;
     kept = cutting.kept;
@@ -52,7 +52,7 @@ module _ (lib : Library) (done stack starts : List ℕ) (new : List ℕ) where
   met-fewer fewer j n met = elim met [ inl h ↦ inl h | inr m ↦ inr (m.0, m.1, m.2, λ b h le. m.3 b (fewer b h) le) ]
 
   module _ (grouped : IsGrouped lib done stack starts) (place k : ℕ) (here : place < length stack) (there : k < length stack)
-      (last : (b : ℕ) → Contains starts b → b ≤ place) (call : Calls lib (get_or stack place 0) (get_or stack k 0)) (cut : IsCut starts k new) where
+      (last : (b : ℕ) → Contains starts b → b ≤ place) (call : CallsName lib (get_or stack place 0) (get_or stack k 0)) (cut : AreCutStarts starts k new) where
     joined-reach : (i j : ℕ) → i < length stack → j < length stack → IsUpTo new i j → Reaches lib (get_or stack i 0) (get_or stack j 0)
     joined-reach i j low high up =
         elim (cases_lt i k) [

@@ -1,7 +1,7 @@
 -- A name whose calls have been followed up to a place, or all.
 use Rattle.std.proofs.Common.{ℕ, ◌≡◌, ◌⊎◌, ◌<◌, inl, inr, refl, sym, subst, List, ◌∷◌, Contains, length, get_or}
 use Rattle.loda_semantics.specs.Exec.{Library}
-use Rattle.call_graph.specs.Closure.{Calls}
+use Rattle.call_graph.specs.Closure.{CallsName}
 use Rattle.call_graph.specs.Groups.{IsLeft, IsMet}
 use Rattle.call_graph.specs.Walks.{frame}
 use Rattle.call_graph.specs.declared.groups.Frame.{Frame}
@@ -34,8 +34,8 @@ module _ (lib : Library) (done stack starts : List ℕ) (f : Frame) (fs : List F
         ]
 
     pub down-pending : (name : ℕ)
-        → ((n : ℕ) → Calls lib (get_or stack f.place 0) n → IsMet done stack new f.place n ⊎ ((name ≡ n) ⊎ IsLeft lib (get_or stack f.place 0) next n))
-        → (j : ℕ) → j < length stack → (n : ℕ) → Calls lib (get_or stack j 0) n
+        → ((n : ℕ) → CallsName lib (get_or stack f.place 0) n → IsMet done stack new f.place n ⊎ ((name ≡ n) ⊎ IsLeft lib (get_or stack f.place 0) next n))
+        → (j : ℕ) → j < length stack → (n : ℕ) → CallsName lib (get_or stack j 0) n
         → IsMet done stack new j n ⊎ ((name ≡ n) ⊎ IsLeftAt lib stack (moved ∷ fs) j n)
     down-pending name followed j low n call =
         elim (trail.pending j low n call) [
@@ -47,9 +47,9 @@ module _ (lib : Library) (done stack starts : List ℕ) (f : Frame) (fs : List F
               ]
         ]
       where
-        at : (i : ℕ) → f.place ≡ i → Calls lib (get_or stack i 0) n → IsMet done stack new i n ⊎ ((name ≡ n) ⊎ IsLeftAt lib stack (moved ∷ fs) i n)
+        at : (i : ℕ) → f.place ≡ i → CallsName lib (get_or stack i 0) n → IsMet done stack new i n ⊎ ((name ≡ n) ⊎ IsLeftAt lib stack (moved ∷ fs) i n)
         at i same calls =
-            subst (λ i. Calls lib (get_or stack i 0) n → IsMet done stack new i n ⊎ ((name ≡ n) ⊎ IsLeftAt lib stack (moved ∷ fs) i n)) same
+            subst (λ i. CallsName lib (get_or stack i 0) n → IsMet done stack new i n ⊎ ((name ≡ n) ⊎ IsLeftAt lib stack (moved ∷ fs) i n)) same
             (λ calls. elim (followed n calls) [ inl met ↦ inl met | inr rest ↦ elim rest [ inl e ↦ inr (inl e) | inr left ↦ inr (inr (moved, frame-here moved fs, refl, left)) ] ])
             calls
 
@@ -57,8 +57,8 @@ module _ (lib : Library) (done stack starts : List ℕ) (f : Frame) (fs : List F
         here same = at j same call
 
   -- the path, once all calls of its end have been followed
-  module _ (followed : (n : ℕ) → Calls lib (get_or stack f.place 0) n → IsMet done stack new f.place n) where
-    pub up-pending : (j : ℕ) → j < length stack → (n : ℕ) → Calls lib (get_or stack j 0) n → IsMet done stack new j n ⊎ IsLeftAt lib stack fs j n
+  module _ (followed : (n : ℕ) → CallsName lib (get_or stack f.place 0) n → IsMet done stack new f.place n) where
+    pub up-pending : (j : ℕ) → j < length stack → (n : ℕ) → CallsName lib (get_or stack j 0) n → IsMet done stack new j n ⊎ IsLeftAt lib stack fs j n
     up-pending j low n call =
         elim (trail.pending j low n call) [
           | inl met ↦ inl (met-fewer lib done stack starts new fewer j n met)
@@ -69,8 +69,8 @@ module _ (lib : Library) (done stack starts : List ℕ) (f : Frame) (fs : List F
               ]
         ]
       where
-        at : (i : ℕ) → f.place ≡ i → Calls lib (get_or stack i 0) n → IsMet done stack new i n
-        at i same calls = subst (λ i. Calls lib (get_or stack i 0) n → IsMet done stack new i n) same (followed n) calls
+        at : (i : ℕ) → f.place ≡ i → CallsName lib (get_or stack i 0) n → IsMet done stack new i n
+        at i same calls = subst (λ i. CallsName lib (get_or stack i 0) n → IsMet done stack new i n) same (followed n) calls
 
     -- its group goes on, since it starts before
     pub up-trail : (Contains new f.place → ⊥) → IsTrail lib done stack new fs

@@ -4,16 +4,16 @@ use Rattle.std.specs.declared.option.Option.TheVariants.{Some}
 use Rattle.loda_syntax.specs.Programs.{Text}
 use Rattle.loda_semantics.specs.Exec.{Library}
 use Rattle.program_store.specs.Graph.{calls_of, Path, Reaches, CallsReach}
-use Rattle.call_graph.specs.Closure.{IsClosed}
+use Rattle.call_graph.specs.Closure.{HasItsCalls}
 
 module _ (lib : Library) where
   -- from a name on a closed list each path stays on it
-  path_stays : (names : List ℕ) → IsClosed lib names → (n from to : ℕ) → Contains names from → Path lib n from to → Contains names to
+  path_stays : (names : List ℕ) → HasItsCalls lib names → (n from to : ℕ) → Contains names from → Path lib n from to → Contains names to
   path_stays names closed zero from to there path = subst (Contains names) path there
   path_stays names closed (suc n) from to there path =
       path_stays names closed n path.2 to (closed from there path.0 path.1 path.2 path.3) path.4
 
-  pub stays : (names : List ℕ) → IsClosed lib names → (from to : ℕ) → Contains names from → Reaches lib from to → Contains names to
+  pub stays : (names : List ℕ) → HasItsCalls lib names → (from to : ℕ) → Contains names from → Reaches lib from to → Contains names to
   stays names closed from to there path = path_stays names closed path.0 from to there path.1
 
   path_call : (n from to : ℕ) → Path lib n from to → (p : Text) → lib to ≡ Some p → (next : ℕ) → Contains (calls_of p) next → Path lib (suc n) from next

@@ -2,7 +2,7 @@
 use Rattle.std.proofs.Common.{ℕ, suc, ◌≡◌, ◌⊎◌, ◌<◌, ◌≤◌, inl, inr, refl, sym, subst, List, [], ◌∷◌, Contains, length, get_or, arith}
 use Rattle.std.specs.Prelude.{⊤}
 use Rattle.loda_semantics.specs.Exec.{Library}
-use Rattle.call_graph.specs.Closure.{Calls}
+use Rattle.call_graph.specs.Closure.{CallsName}
 use Rattle.call_graph.specs.Groups.{IsLeft, IsMet, IsFollowed}
 use Rattle.call_graph.specs.declared.groups.Frame.{Frame}
 use Rattle.std.proofs.lemmas.List.Elements.{Contains-append_cases, Contains-push_cases}
@@ -21,7 +21,7 @@ pub record IsTrail (lib : Library) (done stack starts : List ℕ) (path : List F
   pub descends : Falls path
   pub within : (f : Frame) → Contains path f → f.place < length stack
   pub started : (b : ℕ) → Contains starts b → (f : Frame) × Contains path f × (f.place ≡ b)
-  pub pending : (j : ℕ) → j < length stack → (n : ℕ) → Calls lib (get_or stack j 0) n → IsMet done stack starts j n ⊎ IsLeftAt lib stack path j n
+  pub pending : (j : ℕ) → j < length stack → (n : ℕ) → CallsName lib (get_or stack j 0) n → IsMet done stack starts j n ⊎ IsLeftAt lib stack path j n
 
 pub frame-here : (f : Frame) (fs : List Frame) → Contains (f ∷ fs) f
 frame-here f fs = (0, omega arith, refl)

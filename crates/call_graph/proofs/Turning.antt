@@ -3,23 +3,13 @@ use Rattle.std.proofs.Common.{ℕ, ◌≡◌, ◌≢◌, ◌<◌, ◌≤◌, ◌
 use Rattle.std.specs.declared.option.Option.TheVariants.{Some, None}
 use Rattle.std.proofs.lemmas.Bool.{cases_eq}
 use Rattle.std.proofs.lemmas.List.Elements.{Contains-push_cases, Contains-push, Contains-append_left}
-use Rattle.loda_syntax.specs.declared.instr.Instr.{Instr}
-use Rattle.loda_syntax.specs.declared.instr.Instr.TheVariants.{Arith, Clear, LoopStart, LoopEnd, Call}
 use Rattle.loda_syntax.specs.Programs.{Text}
 use Rattle.program_store.specs.Store.{Store, programs_of, published_at}
-use Rattle.program_store.specs.Graph.{called_by, calls_of}
-use Rattle.call_graph.specs.Closure.{Calls}
+use Rattle.program_store.specs.Graph.{calls_of}
+use Rattle.call_graph.specs.Closure.{CallsName}
 use Rattle.call_graph.specs.Callers.{AddsCaller}
 use Rattle.call_graph.proofs.Loops.{not_there, up_to_next}
 use Rattle.call_graph.proofs.Upward.{one_call}
-
-pub called_by-append : (is js : List Instr) → called_by (is ++ js) ≡ called_by is ++ called_by js
-called_by-append [] js = refl
-called_by-append (Call t q ∷ is) js = ap (λ l. q ∷ l) (called_by-append is js)
-called_by-append (Arith v t s ∷ is) js = called_by-append is js
-called_by-append (Clear c n ∷ is) js = called_by-append is js
-called_by-append (LoopStart c n ∷ is) js = called_by-append is js
-called_by-append (LoopEnd ∷ is) js = called_by-append is js
 
 -- one more call puts the caller last under what it calls
 module _ (old mid new : ℕ → List ℕ) (caller called : ℕ) (calls : List ℕ)
@@ -69,8 +59,8 @@ module _ (old mid new : ℕ → List ℕ) (caller called : ℕ) (calls : List �
 -- the lists have the calls of the names up to `after`, and no others
 pub record IsTurned (s : Store) (under : ℕ → List ℕ) (after : ℕ) : Type 0 where
   pub named : after ≤ 999999
-  pub sound : (to from : ℕ) → Contains (under to) from → Calls (programs_of s) from to
-  pub whole : (from : ℕ) → 1 ≤ from → from ≤ after → (to : ℕ) → Calls (programs_of s) from to → Contains (under to) from
+  pub sound : (to from : ℕ) → Contains (under to) from → CallsName (programs_of s) from to
+  pub whole : (from : ℕ) → 1 ≤ from → from ≤ after → (to : ℕ) → CallsName (programs_of s) from to → Contains (under to) from
 
 -- the next name is visited, and has a program
 pub turned_more : (s : Store) (under : ℕ → List ℕ) (after next : ℕ) → IsTurned s under after → next ≤ 999999 → ((k : ℕ) → after < k → k < next → published_at s k ≡ None)
@@ -80,9 +70,9 @@ turned_more s under after next turned up between new p has adds = record {
   sound = λ to from there.
       elim ((adds to from).0 there) [
         | inl h ↦ turned.sound to from h
-        | inr call ↦ subst (λ k. Calls (programs_of s) k to) (sym call.0) (p, has, call.1)
+        | inr call ↦ subst (λ k. CallsName (programs_of s) k to) (sym call.0) (p, has, call.1)
       ];
-  whole = up_to_next (λ from. (to : ℕ) → Calls (programs_of s) from to → Contains (new to) from) after
+  whole = up_to_next (λ from. (to : ℕ) → CallsName (programs_of s) from to → Contains (new to) from) after
       (λ from low le to call. (adds to from).1 (inl (turned.whole from low le to call))) next
       (λ k above below to call. absurd (not_there s k (between k above below) to (one_call (programs_of s) k to call)))
       (λ to call. (adds to next).1 (inr (refl, subst (λ t. Contains (calls_of t) to) (the_same call.0 p (sym call.1 ∙ has)) call.2)));

@@ -9,7 +9,7 @@ use Rattle.std.proofs.lemmas.List.Elements.{Contains-get_or, Contains-append_lef
 use Rattle.indexmap.specs.IndexSet.{insert_all}
 use Rattle.loda_semantics.specs.Exec.{Library}
 use Rattle.program_store.specs.Graph.{Reaches, OnCycle, NoCycle}
-use Rattle.call_graph.specs.Closure.{Calls, IsClosed, IsLeast}
+use Rattle.call_graph.specs.Closure.{CallsName, HasItsCalls, IsLeast}
 use Rattle.call_graph.specs.Groups.{Descends, IsLeft, IsMet, IsGrouped}
 use Rattle.call_graph.specs.Walks.{IsSettled, AddsLoop, frame}
 use Rattle.call_graph.specs.declared.walk.Walk.{Walk}
@@ -55,7 +55,7 @@ walk-top lib first name done looped stack starts path rest f is walk = subst (λ
 
 module _ (lib : Library) where
   -- the walk begins
-  pub walk-first : (done looped : List ℕ) (name : ℕ) → IsClosed lib done → ((q : ℕ) → Contains looped q ↔ (Contains done q × OnCycle lib q))
+  pub walk-first : (done looped : List ℕ) (name : ℕ) → HasItsCalls lib done → ((q : ℕ) → Contains looped q ↔ (Contains done q × OnCycle lib q))
       → (Contains done name → ⊥) → IsWalk lib done name done looped (name ∷ []) (0 ∷ []) (frame 0 0 ∷ [])
   walk-first done looped name closed known new = record {
     grouped = entered lib done [] [] name (λ b there. absurd (omega arith)) none new (λ j lt. absurd (omega arith));
@@ -84,8 +84,8 @@ module _ (lib : Library) where
     new-last b there = trail-last lib done stack starts f fs walk.trail b (fewer b there)
 
     -- it goes down to a new name
-    module _ (next name : ℕ) (call : Calls lib (get_or stack f.place 0) name) (not-done : Contains done name → ⊥)
-        (followed : (n : ℕ) → Calls lib (get_or stack f.place 0) n → IsMet done stack new f.place n ⊎ ((name ≡ n) ⊎ IsLeft lib (get_or stack f.place 0) next n)) where
+    module _ (next name : ℕ) (call : CallsName lib (get_or stack f.place 0) name) (not-done : Contains done name → ⊥)
+        (followed : (n : ℕ) → CallsName lib (get_or stack f.place 0) n → IsMet done stack new f.place n ⊎ ((name ≡ n) ⊎ IsLeft lib (get_or stack f.place 0) next n)) where
       below : (b : ℕ) → Contains new b → b < length stack
       below b there = let le : b ≤ f.place = new-last b there in let lt : f.place < length stack = within in omega arith
 
@@ -103,7 +103,7 @@ module _ (lib : Library) where
         entered = elim walk.entered [ inl h ↦ inl h | inr h ↦ inr (Contains-append_left stack (name ∷ []) root h) ];
       }
 
-    module _ (followed : (n : ℕ) → Calls lib (get_or stack f.place 0) n → IsMet done stack new f.place n) where
+    module _ (followed : (n : ℕ) → CallsName lib (get_or stack f.place 0) n → IsMet done stack new f.place n) where
       -- it goes up, and the group goes on
       pub walk-up : ((rest : List ℕ) → new ≡ f.place ∷ rest → ⊥) → IsWalk lib first root done looped stack new fs
       walk-up other = record {
@@ -131,7 +131,7 @@ module _ (lib : Library) where
           → IsWalk lib first root (insert_all nat_eq done (drop f.place stack)) more (take f.place stack) rest fs
       walk-end rest is distinct more adds =
           let grouped-at : IsGrouped lib done stack (f.place ∷ rest) = subst (IsGrouped lib done stack) is grouped in
-          let pending = subst (λ (l : List ℕ). (j : ℕ) → j < length stack → (n : ℕ) → Calls lib (get_or stack j 0) n → IsMet done stack l j n ⊎ IsLeftAt lib stack fs j n) is
+          let pending = subst (λ (l : List ℕ). (j : ℕ) → j < length stack → (n : ℕ) → CallsName lib (get_or stack j 0) n → IsMet done stack l j n ⊎ IsLeftAt lib stack fs j n) is
           (up-pending lib done stack starts f fs walk.trail new fewer followed) in
           record {
             grouped = ended lib done stack rest f fs distinct within walk.trail.descends grouped-at pending;
@@ -201,7 +201,7 @@ reverse-none xs none = sym (reverse-reverse xs) ∙ ap (λ (l : List ℕ). rever
 -- a walk that has found nothing
 pub settled-first : (lib : Library) (walk : Walk) → walk.done.keys ≡ [] → walk.looped.items ≡ [] → walk.stack.keys ≡ [] → walk.starts.items ≡ [] → walk.path.items ≡ [] → IsSettled lib walk
 settled-first lib walk done looped stack starts path = record {
-  closed = subst (λ (l : List ℕ). IsClosed lib l) (sym done) (λ q there p e n call. absurd (omega arith));
+  closed = subst (λ (l : List ℕ). HasItsCalls lib l) (sym done) (λ q there p e n call. absurd (omega arith));
   looped = λ q. subst₂ (λ (l d : List ℕ). Contains l q ↔ (Contains d q × OnCycle lib q)) (sym looped) (sym done) (λ there. absurd (omega arith), λ both. absurd (none both.0));
   stack = stack;
   starts = starts;

@@ -6,8 +6,8 @@ use Rattle.loda_semantics.specs.Exec.{Library}
 use Rattle.program_store.specs.Graph.{calls_of, Reaches, CallsReach}
 
 -- the name has a program that calls the other name
-abbrev pub Calls : Library → ℕ → ℕ → Type 0
-Calls lib from to = (p : Text) × (lib from ≡ Some p) × Contains (calls_of p) to
+abbrev pub CallsName : Library → ℕ → ℕ → Type 0
+CallsName lib from to = (p : Text) × (lib from ≡ Some p) × Contains (calls_of p) to
 
 -- the name has a program, and some call of it reaches the other name
 abbrev pub ReachesByCall : Library → ℕ → ℕ → Type 0
@@ -18,8 +18,8 @@ abbrev pub HasCallsOf : Library → List ℕ → ℕ → Type 0
 HasCallsOf lib names q = (p : Text) → lib q ≡ Some p → (n : ℕ) → Contains (calls_of p) n → Contains names n
 
 -- the list has what its names call
-abbrev pub IsClosed : Library → List ℕ → Type 0
-IsClosed lib names = (q : ℕ) → Contains names q → HasCallsOf lib names q
+abbrev pub HasItsCalls : Library → List ℕ → Type 0
+HasItsCalls lib names = (q : ℕ) → Contains names q → HasCallsOf lib names q
 
 -- q is the least number with the property
 abbrev pub IsLeast : (ℕ → Type 0) → ℕ → Type 0

@@ -4,7 +4,7 @@ use Rattle.std.specs.declared.option.Option.TheVariants.{Some}
 use Rattle.loda_syntax.specs.Programs.{Text}
 use Rattle.loda_semantics.specs.Exec.{Library}
 use Rattle.program_store.specs.Graph.{called_by, Reaches}
-use Rattle.call_graph.specs.Closure.{Calls, IsClosed}
+use Rattle.call_graph.specs.Closure.{CallsName, HasItsCalls}
 
 -- each number on the list is greater than those after it
 abbrev pub Descends : List ℕ → Type 0
@@ -24,18 +24,18 @@ abbrev pub IsMet : List ℕ → List ℕ → List ℕ → ℕ → ℕ → Type 0
 IsMet done stack starts j n = Contains done n ⊎ ((k : ℕ) × (k < length stack) × (get_or stack k 0 ≡ n) × IsUpTo starts j k)
 
 -- the new starts are the old ones up to place k
-pub record IsCut (old : List ℕ) (k : ℕ) (new : List ℕ) : Type 0 where
+pub record AreCutStarts (old : List ℕ) (k : ℕ) (new : List ℕ) : Type 0 where
   pub descends : Descends new
   pub kept : (b : ℕ) → Contains old b → b ≤ k → Contains new b
   pub cut : (b : ℕ) → Contains new b → Contains old b × (b ≤ k)
 
 -- the name is done, or it is on the stack and the starts are cut at its place
 abbrev pub IsKnown : List ℕ → List ℕ → List ℕ → List ℕ → ℕ → Type 0
-IsKnown done stack old new n = (Contains done n × (new ≡ old)) ⊎ ((k : ℕ) × (k < length stack) × (get_or stack k 0 ≡ n) × IsCut old k new)
+IsKnown done stack old new n = (Contains done n × (new ≡ old)) ⊎ ((k : ℕ) × (k < length stack) × (get_or stack k 0 ≡ n) × AreCutStarts old k new)
 
 -- the names done reach only such names; those on the stack are not among them, and each of these reaches those of its group and of the later ones
 pub record IsGrouped (lib : Library) (done stack starts : List ℕ) : Type 0 where
-  pub closed : IsClosed lib done
+  pub closed : HasItsCalls lib done
   pub apart : (q : ℕ) → Contains stack q → Contains done q → ⊥
   pub reach : (j k : ℕ) → j < length stack → k < length stack → IsUpTo starts j k → Reaches lib (get_or stack j 0) (get_or stack k 0)
   pub descends : Descends starts
@@ -44,4 +44,4 @@ pub record IsGrouped (lib : Library) (done stack starts : List ℕ) : Type 0 whe
 -- each call of the name at the place of the stack has been followed, or is left
 abbrev pub IsFollowed : Library → List ℕ → List ℕ → List ℕ → ℕ → ℕ → Type 0
 IsFollowed lib done stack starts j next =
-    (n : ℕ) → Calls lib (get_or stack j 0) n → IsMet done stack starts j n ⊎ IsLeft lib (get_or stack j 0) next n
+    (n : ℕ) → CallsName lib (get_or stack j 0) n → IsMet done stack starts j n ⊎ IsLeft lib (get_or stack j 0) next n

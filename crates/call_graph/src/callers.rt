@@ -4,11 +4,12 @@ ghost use Rattle.std.specs.Prelude.{ℕ, ◌≡◌, ◌++◌, ◌∷◌, ◌≢�
 ghost use Rattle.indexmap.specs.IndexSet.{insert_all};
 ghost use Rattle.program_store.specs.Store.{programs_of};
 ghost use Rattle.program_store.specs.Graph.{calls_of};
-ghost use Rattle.call_graph.specs.Closure.{Calls};
+ghost use Rattle.call_graph.specs.Closure.{CallsName};
 ghost use Rattle.call_graph.specs.Callers.{names_under, AddsCaller};
 
+use crate::closure::{add_names, called_names};
 use indexmap::{IndexMap, IndexSet};
-use loda_syntax::{Instr, Program};
+use loda_syntax::Program;
 use program_store::{Library, View};
 use std::alloc::{AllocError, Global};
 
@@ -27,30 +28,29 @@ fn add_caller(
 
 /// Puts a name under each one that its program's text calls.
 fn add_program(
+    alloc: Global,
     callers: &mut IndexMap<u32, Vec<u32>>,
     program: &Program,
     caller: u32,
 ) -> Result<(), AllocError>
     ensures { OnOk result (AddsCaller (names_under callers.old) (names_under callers.new) caller (calls_of program.now)) }
 {
-    let list = program.instrs();
-    for instr in list {
-        if let Instr::Call { target: _, name } = instr {
-            add_caller(callers, *name, caller)?;
-        }
+    let names = called_names(alloc, program)?;
+    for name in &names {
+        add_caller(callers, *name, caller)?;
     }
     Ok(())
 }
 
 /// The names that call each name. Each published name is visited once.
 pub fn callers<V: View>(alloc: Global, view: &V) -> Result<IndexMap<u32, Vec<u32>>, AllocError>
-    ensures { IfOk result (λ callers. (to from : ℕ) → Contains (names_under callers to) from ↔ Calls (programs_of (V.store view.now)) from to) }
+    ensures { IfOk result (λ callers. (to from : ℕ) → Contains (names_under callers to) from ↔ CallsName (programs_of (V.store view.now)) from to) }
 {
     let mut callers = IndexMap::new(alloc);
     let mut after = 0;
     while let Some(caller) = view.next_name(after) {
         if let Some(program) = view.program(caller) {
-            add_program(&mut callers, program, caller)?;
+            add_program(alloc, &mut callers, program, caller)?;
         }
         after = caller;
     }
@@ -65,10 +65,8 @@ pub fn add_callers(
 ) -> Result<(), AllocError>
     ensures { OnOk result (names.new.keys ≡ insert_all nat_eq names.old.keys (names_under callers.now called)) }
 {
-    if let Some(list) = callers.get(&called) {
-        for caller in list {
-            names.insert(*caller)?;
-        }
+    match callers.get(&called) {
+        Some(list) => add_names(names, list),
+        None => Ok(()),
     }
-    Ok(())
 }

@@ -1,8 +1,8 @@
 //! The stack of a walk down the calls: names entered that are not done, in groups that reach each other.
 
 ghost use Rattle.std.specs.Prelude.{ℕ, ◌≡◌, ◌⊎◌, ◌<◌, ◌≤◌, ◌∷◌, List, Contains, IfSome, IfNone, IsTrue, IsFalse, length, get_or, reverse};
-ghost use Rattle.call_graph.specs.Closure.{Calls};
-ghost use Rattle.call_graph.specs.Groups.{Descends, IsLeft, IsMet, IsCut, IsKnown, IsGrouped, IsFollowed};
+ghost use Rattle.call_graph.specs.Closure.{CallsName};
+ghost use Rattle.call_graph.specs.Groups.{Descends, IsLeft, IsMet, AreCutStarts, IsKnown, IsGrouped, IsFollowed};
 
 use indexmap::IndexSet;
 use loda_syntax::Instr;
@@ -19,7 +19,7 @@ pub struct Frame {
 /// Joins the groups from the one of the place on.
 fn join(starts: &mut Vec<usize>, place: usize)
     requires { Descends (reverse starts.old.items) }
-    ensures { IsCut (reverse starts.old.items) place (reverse starts.new.items) }
+    ensures { AreCutStarts (reverse starts.old.items) place (reverse starts.new.items) }
 {
     while let Some(start) = starts.last() {
         if *start <= place {
@@ -81,11 +81,11 @@ pub fn follow<B: Library>(
     requires before { IsFollowed (B.programs lib.now) done.now.keys stack.now.keys (reverse starts.old.items) frame.now.place frame.now.next }
     ensures grouped { IsGrouped (B.programs lib.now) done.now.keys stack.now.keys (reverse starts.new.items) }
     ensures fewer { (b : ℕ) → Contains (reverse starts.new.items) b → Contains (reverse starts.old.items) b }
-    ensures called { IfSome result (λ r. Calls (B.programs lib.now) (get_or stack.now.keys frame.now.place 0) r.1) }
+    ensures called { IfSome result (λ r. CallsName (B.programs lib.now) (get_or stack.now.keys frame.now.place 0) r.1) }
     ensures done { IfSome result (λ r. Contains done.now.keys r.1 → ⊥) }
     ensures stack { IfSome result (λ r. Contains stack.now.keys r.1 → ⊥) }
-    ensures some { IfSome result (λ r. (n : ℕ) → Calls (B.programs lib.now) (get_or stack.now.keys frame.now.place 0) n → IsMet done.now.keys stack.now.keys (reverse starts.new.items) frame.now.place n ⊎ ((r.1 ≡ n) ⊎ IsLeft (B.programs lib.now) (get_or stack.now.keys frame.now.place 0) r.0 n)) }
-    ensures none { IfNone result ((n : ℕ) → Calls (B.programs lib.now) (get_or stack.now.keys frame.now.place 0) n → IsMet done.now.keys stack.now.keys (reverse starts.new.items) frame.now.place n) }
+    ensures some { IfSome result (λ r. (n : ℕ) → CallsName (B.programs lib.now) (get_or stack.now.keys frame.now.place 0) n → IsMet done.now.keys stack.now.keys (reverse starts.new.items) frame.now.place n ⊎ ((r.1 ≡ n) ⊎ IsLeft (B.programs lib.now) (get_or stack.now.keys frame.now.place 0) r.0 n)) }
+    ensures none { IfNone result ((n : ℕ) → CallsName (B.programs lib.now) (get_or stack.now.keys frame.now.place 0) n → IsMet done.now.keys stack.now.keys (reverse starts.new.items) frame.now.place n) }
 {
     let name = stack.get_index(frame.place)?;
     let program = lib.program(*name)?;
@@ -102,8 +102,8 @@ pub fn follow<B: Library>(
 
 /// Whether the program of the name calls the name.
 pub fn calls_itself<B: Library>(lib: &B, name: u32) -> bool
-    ensures yes { IsTrue result → Calls (B.programs lib.now) name name }
-    ensures not { IsFalse result → Calls (B.programs lib.now) name name → ⊥ }
+    ensures yes { IsTrue result → CallsName (B.programs lib.now) name name }
+    ensures not { IsFalse result → CallsName (B.programs lib.now) name name → ⊥ }
 {
     let Some(program) = lib.program(name) else {
         return false;

@@ -29,7 +29,7 @@ pub fn first_through<B: Library>(
     for name in &names {
         let at = seen.len();
         seen.insert(*name)?;
-        close(lib, &mut seen, at)?;
+        close(alloc, lib, &mut seen, at)?;
         if seen.contains(&target) {
             return Ok(Some(*name));
         }
@@ -57,8 +57,8 @@ pub fn descendants<B: Library>(
     ensures exact { IfOk result (λ names. (q : ℕ) → Contains names.items q ↔ CallsReach (B.programs lib.now) program.now q) }
 {
     let mut reached = IndexSet::new(alloc);
-    add_calls(&mut reached, program)?;
-    close(lib, &mut reached, 0)?;
+    add_calls(alloc, &mut reached, program)?;
+    close(alloc, lib, &mut reached, 0)?;
     ascending(alloc, &reached)
 }
 

@@ -6,6 +6,7 @@ ghost use Rattle.indexmap.specs.IndexSet.{insert_key, insert_all};
 ghost use Rattle.call_graph.specs.Closure.{IsLeast};
 ghost use Rattle.call_graph.specs.Walks.{IsSettled, IsLoop, AddsLoop, frame};
 
+use crate::closure::add_names;
 use crate::groups::{Frame, calls_itself, follow, pop_start};
 use indexmap::IndexSet;
 use program_store::Library;
@@ -42,16 +43,6 @@ fn add_looped<B: Library>(lib: &B, looped: &mut Vec<u32>, group: &[u32]) -> Resu
 {
     if is_loop(lib, group) {
         looped.extend_from_slice(group)?;
-    }
-    Ok(())
-}
-
-/// Puts in the names, in order.
-fn add_names(names: &mut IndexSet<u32>, more: &[u32]) -> Result<(), AllocError>
-    ensures { OnOk result (names.new.keys ≡ insert_all nat_eq names.old.keys more.now) }
-{
-    for name in more {
-        names.insert(*name)?;
     }
     Ok(())
 }

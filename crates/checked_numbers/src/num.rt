@@ -1,7 +1,7 @@
 //! The numbers that programs compute with, and their text.
 
-ghost use Rattle.std.specs.Prelude.{◌≡◌, ℤ, SomeIff, ◌↔◌, IsTrue, ◌≤ℤ◌, ◌++◌, OnOk, OnErr};
-ghost use Rattle.checked_numbers.specs.Numbers.{IsNumber, decimal_of};
+ghost use Rattle.std.specs.Prelude.{◌≡◌, ℤ, pos, SomeIff, ◌↔◌, IsTrue, ◌≤ℤ◌, ◌++◌, OnOk, OnErr};
+ghost use Rattle.checked_numbers.specs.Numbers.{IsNumber, number_text};
 
 use itoa::Buffer;
 use std::alloc::AllocError;
@@ -45,9 +45,19 @@ impl Num {
     }
 }
 
+/// The number of an index, a count or a place.
+pub fn number_of(index: u32) -> Num
+    ensures { result ≡ pos index }
+{
+    match Num::new(i128::from(index)) {
+        Some(number) => number,
+        None => unreachable!(),
+    }
+}
+
 /// Adds the decimal text of a number, as `-12`. After want of memory `out` is as before.
 pub fn write_num(out: &mut Vec<u8>, v: Num) -> Result<(), AllocError>
-    ensures ok { OnOk result (out.new.items ≡ out.old.items ++ decimal_of v) }
+    ensures ok { OnOk result (out.new.items ≡ out.old.items ++ number_text v) }
     ensures err { OnErr result (out.new.items ≡ out.old.items) }
 {
     let mut buffer = Buffer::new();

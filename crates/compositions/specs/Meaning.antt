@@ -11,29 +11,29 @@ use Rattle.compositions.specs.Places.{place, ending_in}
 use Rattle.compositions.specs.Composed.{linear, linear_end, difference, sum}
 
 -- with n steps the text comes to the value w at x, in `used` of them and by these calls
-abbrev pub Runs : Library → Text → ℤ → ℕ → ℤ → ℕ → Calls → Type 0
-Runs lib p x n w used c = run_text lib p x n ≡ (value w used, c)
+abbrev pub RunsTo : Library → Text → ℤ → ℕ → ℤ → ℕ → Calls → Type 0
+RunsTo lib p x n w used c = run_text lib p x n ≡ (value w used, c)
 
 -- with n steps the text has the value w at x
-abbrev pub Gives : Library → Text → ℤ → ℕ → ℤ → Type 0
-Gives lib p x n w = (used : ℕ) × (c : Calls) × Runs lib p x n w used c
+abbrev pub GivesValue : Library → Text → ℤ → ℕ → ℤ → Type 0
+GivesValue lib p x n w = (used : ℕ) × (c : Calls) × RunsTo lib p x n w used c
 
 -- Where q has a value at x, p has a value there, and q's is a times that and b. Where p has a value, q has it so, if the product and the sum are
 -- numbers and there are the steps of p and one for each instruction behind p.
 pub record IsLinear (p q : Text) (a b : ℤ) : Type 0 where
-  pub from : (lib : Library) (x : ℤ) (n : ℕ) (v : ℤ) (used : ℕ) (c : Calls) → Runs lib q x n v used c
-      → (w : ℤ) × (before : ℕ) × Runs lib p x n w before c × (v ≡ a *ℤ w +ℤ b) × (used ≡ before + length (linear_end a b))
-  pub to : (lib : Library) (x : ℤ) (n n' : ℕ) (w : ℤ) (used : ℕ) (c : Calls) → Runs lib p x n w used c → IsNumber (a *ℤ w) → IsNumber (a *ℤ w +ℤ b)
-      → used + length (linear_end a b) ≤ n' → Runs lib q x n' (a *ℤ w +ℤ b) (used + length (linear_end a b)) c
+  pub from : (lib : Library) (x : ℤ) (n : ℕ) (v : ℤ) (used : ℕ) (c : Calls) → RunsTo lib q x n v used c
+      → (w : ℤ) × (before : ℕ) × RunsTo lib p x n w before c × (v ≡ a *ℤ w +ℤ b) × (used ≡ before + length (linear_end a b))
+  pub to : (lib : Library) (x : ℤ) (n n' : ℕ) (w : ℤ) (used : ℕ) (c : Calls) → RunsTo lib p x n w used c → IsNumber (a *ℤ w) → IsNumber (a *ℤ w +ℤ b)
+      → used + length (linear_end a b) ≤ n' → RunsTo lib q x n' (a *ℤ w +ℤ b) (used + length (linear_end a b)) c
 
 -- Where q has a value at x, p has values there and at x + 1, and q's is their difference. Where p has these values, q has it so, if x, x + 1 and
 -- the difference are numbers and there are the steps of both and three more.
 pub record IsDifference (p q : Text) : Type 0 where
-  pub from : (lib : Library) (x : ℤ) (n : ℕ) (v : ℤ) (used : ℕ) (c : Calls) → Runs lib q x n v used c
-      → (w0 w1 : ℤ) × (u0 u1 : ℕ) × (c0 c1 : Calls) × Runs lib p x n w0 u0 c0 × Runs lib p (x +ℤ pos 1) n w1 u1 c1
+  pub from : (lib : Library) (x : ℤ) (n : ℕ) (v : ℤ) (used : ℕ) (c : Calls) → RunsTo lib q x n v used c
+      → (w0 w1 : ℤ) × (u0 u1 : ℕ) × (c0 c1 : Calls) × RunsTo lib p x n w0 u0 c0 × RunsTo lib p (x +ℤ pos 1) n w1 u1 c1
       × (v ≡ w1 -ℤ w0) × (used ≡ u1 + u0 + 3) × (c ≡ join c1 c0)
-  pub to : (lib : Library) (x : ℤ) (n n' : ℕ) (w0 w1 : ℤ) (u0 u1 : ℕ) (c0 c1 : Calls) → Runs lib p x n w0 u0 c0 → Runs lib p (x +ℤ pos 1) n w1 u1 c1
-      → IsNumber x → IsNumber (x +ℤ pos 1) → IsNumber (w1 -ℤ w0) → u1 + u0 + 3 ≤ n' → Runs lib q x n' (w1 -ℤ w0) (u1 + u0 + 3) (join c1 c0)
+  pub to : (lib : Library) (x : ℤ) (n n' : ℕ) (w0 w1 : ℤ) (u0 u1 : ℕ) (c0 c1 : Calls) → RunsTo lib p x n w0 u0 c0 → RunsTo lib p (x +ℤ pos 1) n w1 u1 c1
+      → IsNumber x → IsNumber (x +ℤ pos 1) → IsNumber (w1 -ℤ w0) → u1 + u0 + 3 ≤ n' → RunsTo lib q x n' (w1 -ℤ w0) (u1 + u0 + 3) (join c1 c0)
 
 -- the sum of the values at 0 to n
 abbrev pub sum_up : (ℕ → ℤ) → ℕ → ℤ
@@ -42,7 +42,7 @@ sum_up w (suc n) = sum_up w n +ℤ w (suc n)
 
 -- Where q has a value at x, which is 0 or more, p has values at 0 to x, and q's is their sum.
 pub record IsSum (p q : Text) : Type 0 where
-  pub from : (lib : Library) (x n : ℕ) (v : ℤ) → Gives lib q (pos x) n v → (w : ℕ → ℤ) × ((k : ℕ) → k ≤ x → Gives lib p (pos k) n (w k)) × (v ≡ sum_up w x)
+  pub from : (lib : Library) (x n : ℕ) (v : ℤ) → GivesValue lib q (pos x) n v → (w : ℕ → ℤ) × ((k : ℕ) → k ≤ x → GivesValue lib p (pos k) n (w k)) × (v ≡ sum_up w x)
 
 -- Each program and then its linear end is a times the program's value, and b.
 abbrev pub LinearMeans : Type 0

@@ -11,7 +11,7 @@ use Rattle.program_store.specs.Graph.{NoCycle}
 use Rattle.seq_calls.specs.Frames.{pair}
 use Rattle.seq_calls.specs.Demand.{InDem}
 use Rattle.demand_table.specs.Drawn.{ReachedAfter, Drawing}
-use Rattle.demand_table.specs.Table.{runs_in_library, checks_in_store, IsTable, MayReplace}
+use Rattle.demand_table.specs.Table.{runs_in_library, checks_in_store, IsDemandTable, MayReplace}
 use Rattle.demand_table.proofs.Live.{range_some, table_values, demanded_live}
 
 -- nothing is live in the empty store
@@ -23,7 +23,7 @@ none_live zero p h =
     cc
 none_live (suc n) p h = none_live n h.0 h.1
 
-pub empty_table : IsTable empty (λ p. None)
+pub empty_table : IsDemandTable empty (λ p. None)
 empty_table = record {
   live = λ p. (λ h. cc, λ l. absurd (none_live l.0 p l.1));
   runs = λ p n h. cc;
@@ -32,7 +32,7 @@ empty_table = record {
 }
 
 -- a name that isn't published is demanded by nobody
-pub new_name : (s : Store) (D : Drawing) (q : ℕ) (text : Text) (checked : ℕ) → IsTable s D → published_at s q ≡ None → NoCycle (programs_of (put_in s q text checked))
+pub new_name : (s : Store) (D : Drawing) (q : ℕ) (text : Text) (checked : ℕ) → IsDemandTable s D → published_at s q ≡ None → NoCycle (programs_of (put_in s q text checked))
     → ((i : ℕ) → i < checked → IsSome (runs_in_library (programs_of (put_in s q text checked)) (pair q (pos i)))) → MayReplace s q text checked
 new_name s D q text checked table none acyclic values = record {
   acyclic = acyclic;

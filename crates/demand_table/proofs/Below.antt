@@ -9,7 +9,7 @@ use Rattle.seq_calls.specs.Demand.{ample}
 use Rattle.seq_calls.proofs.Records.{AreAnswered, answered_name}
 use Rattle.seq_calls.proofs.Below.{calls_have_runs}
 use Rattle.demand_table.specs.declared.entry.Entry.{Entry}
-use Rattle.demand_table.specs.Drawn.{Calls as CallsIn}
+use Rattle.demand_table.specs.Drawn.{RunCalls as CallsIn}
 use Rattle.demand_table.specs.Table.{runs_in_library, steps_at}
 use Rattle.demand_table.proofs.Counted.{is_some}
 use Rattle.demand_table.proofs.Ran.{ran_of, steps_with, entry_with}

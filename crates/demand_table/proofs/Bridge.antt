@@ -22,9 +22,9 @@ use Rattle.seq_calls.proofs.Members.{members_are_runs}
 use Rattle.demand_table.specs.declared.range.Range.{Range}
 use Rattle.demand_table.specs.declared.entry.Entry.{Entry}
 use Rattle.demand_table.specs.declared.node.Node.{Node}
-use Rattle.demand_table.specs.Drawn.{Checks, Runs, IsChecked, Calls as CallsIn, with_range, IsReached, IsClosed, TotalsFit, Drawing, entry_of, IsDrawn}
+use Rattle.demand_table.specs.Drawn.{CheckedRanges, Runs, IsChecked, RunCalls as CallsIn, with_range, IsReached, IsClosed, TotalsFit, Drawing, node_entry, IsDrawn}
 use Rattle.demand_table.specs.Mended.{run_of, run_at, either, apart_from, mended, Fits, runs_of}
-use Rattle.demand_table.specs.Table.{runs_in_library, steps_at, from_zero, checks_in_store, IsTable, AreFramesOf, IsWanted, MayReplace}
+use Rattle.demand_table.specs.Table.{runs_in_library, steps_at, from_zero, checks_in_store, IsDemandTable, AreFramesOf, IsWanted, MayReplace}
 use Rattle.demand_table.proofs.Counts.{nil-cases, cons-cases, cons-here, cons-more}
 use Rattle.demand_table.proofs.Counted.{some_is, is_some}
 use Rattle.demand_table.proofs.Pairs.{same_parts}
@@ -71,15 +71,15 @@ eq_true a b e = grind arith
 eq_false : (a b : ℕ) → a ≢ b → (a == b) ≡ false
 eq_false a b e = grind arith
 
-node_parts : (o : Option Node) (e : Entry) → option_map entry_of o ≡ Some e → (n : Node) × (o ≡ Some n) × (entry_of n ≡ e)
+node_parts : (o : Option Node) (e : Entry) → option_map node_entry o ≡ Some e → (n : Node) × (o ≡ Some n) × (node_entry n ≡ e)
 node_parts None e h = absurd (let z : None ≡ Some e = h in cc)
 node_parts (Some n) e h = (n, refl, cc)
 
-map_some : (o : Option Node) → IsSome o → IsSome (option_map entry_of o)
+map_some : (o : Option Node) → IsSome o → IsSome (option_map node_entry o)
 map_some None h = cc
 map_some (Some n) h = refl
 
-module _ (C : Checks) (q : ℕ) (range : Range) where
+module _ (C : CheckedRanges) (q : ℕ) (range : Range) where
   range_here : (n : ℕ) → n ≡ q → with_range C q range n ≡ Some range
   range_here n e = ap (λ (b : Bool). if b then Some range else C n) (eq_true n q e)
 
@@ -125,13 +125,13 @@ checks_follow s q text checked n = by_name (cases_eq n q)
 
 -- ---- the bridge
 
-module _ (s : Store) (q : ℕ) (text : Text) (checked : ℕ) (D : Drawing) (runs : List NodeRun) (table : IsTable s D) (may : MayReplace s q text checked)
+module _ (s : Store) (q : ℕ) (text : Text) (checked : ℕ) (D : Drawing) (runs : List NodeRun) (table : IsDemandTable s D) (may : MayReplace s q text checked)
     (frames : AreFramesOf (programs_of (put_in s q text checked)) (IsWanted s q checked) runs) where
   -- the programs, the checks and the runs of both sides
   abbrev next : Library
   next = programs_of (put_in s q text checked)
 
-  abbrev checks : Checks
+  abbrev checks : CheckedRanges
   checks = with_range (checks_in_store s) q (from_zero checked)
 
   abbrev now : Runs
@@ -289,6 +289,6 @@ module _ (s : Store) (q : ℕ) (text : Text) (checked : ℕ) (D : Drawing) (runs
 
   -- ---- the next table
 
-  pub gives_table : (E : Drawing) → IsDrawn checks now E → IsTable (put_in s q text checked) E
+  pub gives_table : (E : Drawing) → IsDrawn checks now E → IsDemandTable (put_in s q text checked) E
   gives_table E drawn =
-      subst (λ (c : Checks). IsDrawn c (runs_in_library next) E) (λ i n. checks_follow s q text checked n i) (drawn_agree checks now (runs_in_library next) closed mended_run E drawn)
+      subst (λ (c : CheckedRanges). IsDrawn c (runs_in_library next) E) (λ i n. checks_follow s q text checked n i) (drawn_agree checks now (runs_in_library next) closed mended_run E drawn)

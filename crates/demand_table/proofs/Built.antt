@@ -14,7 +14,7 @@ use Rattle.demand_table.specs.declared.entry.Entry.{Entry}
 use Rattle.demand_table.specs.declared.node.Node.{Node}
 use Rattle.demand_table.specs.declared.range.Range.{Range}
 use Rattle.demand_table.specs.declared.work.Work.{Work}
-use Rattle.demand_table.specs.Drawn.{Checks, Runs, IsChecked, Calls, IsClosed, TotalsFit, Drawing, entry_of, IsDrawn}
+use Rattle.demand_table.specs.Drawn.{CheckedRanges, Runs, IsChecked, RunCalls, IsClosed, TotalsFit, Drawing, node_entry, IsDrawn}
 use Rattle.demand_table.specs.Filed.{IsWrittenDown}
 use Rattle.demand_table.specs.Gathered.{IsUndrawn, AreLiveRuns}
 use Rattle.demand_table.specs.Held.{Covers, IsHeld}
@@ -23,9 +23,9 @@ use Rattle.demand_table.specs.Mended.{drawing_of}
 use Rattle.demand_table.specs.Mending.{IsForgetting}
 use Rattle.demand_table.specs.Reaching.{Index}
 use Rattle.demand_table.specs.Settling.{IsUnsettled, CanSettle, Settles}
-use Rattle.demand_table.specs.Table.{runs_in_library, steps_at, checks_in_store, IsTable}
+use Rattle.demand_table.specs.Table.{runs_in_library, steps_at, checks_in_store, IsDemandTable}
 use Rattle.demand_table.specs.Tabled.{IsTabled}
-use Rattle.demand_table.specs.Upward.{names_under}
+use Rattle.demand_table.specs.Upward.{names_filed_under}
 use Rattle.demand_table.specs.Work.{Slots, runs_in, IsDropped}
 use Rattle.demand_table.proofs.Counted.{some_is, is_some}
 use Rattle.demand_table.proofs.Pairs.{same_parts}
@@ -45,7 +45,7 @@ module _ (s : Store) (values : HasValues s) (w w4 : Slots) (callers : Index) (pa
     (h : AreLiveRuns s w callers (Contains pairs) stand) (all : (name i : ℕ) → i < checked_at s name → IsSome (w (pair name (pos i))).entry)
     (forgot : IsForgetting w w4 pairs listed many) where
   -- the checks and the runs of the store
-  abbrev checks : Checks
+  abbrev checks : CheckedRanges
   checks = checks_in_store s
 
   abbrev runs : Runs
@@ -134,7 +134,7 @@ module _ (s : Store) (values : HasValues s) (w w4 : Slots) (callers : Index) (pa
       covers : Covers callers next
       covers p to n at called =
           let drawn_at = sym (all_nodes checks runs (drawing_of w5) (store_closed s values) table next checks_next nodes_next p) ∙ at in
-          let k : Calls (runs_in w) p to = (entry_of n, drawn.runs p n drawn_at, called) in
+          let k : RunCalls (runs_in w) p to = (node_entry n, drawn.runs p n drawn_at, called) in
           h.covers p to k (has_name to (h.closed p to k))
 
       pub held_next : IsHeld next callers stand

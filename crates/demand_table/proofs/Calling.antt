@@ -12,7 +12,7 @@ use Rattle.loda_semantics.specs.declared.kinds.Pair.{Pair}
 use Rattle.demand_table.specs.declared.node.Node.{Node}
 use Rattle.demand_table.specs.declared.node.Folder.{Folder}
 use Rattle.demand_table.specs.Counts.{IsCount}
-use Rattle.demand_table.specs.Drawn.{Checks, Runs, Calls, ReachedAfter, IsReached, Drawing, entry_of, NodeCalls, IsDrawn}
+use Rattle.demand_table.specs.Drawn.{CheckedRanges, Runs, RunCalls, ReachedAfter, IsReached, Drawing, node_entry, NodeCalls, IsDrawn}
 use Rattle.demand_table.specs.Loaded.{Folders, node_in, node_at, checks_of, the_pair}
 use Rattle.demand_table.specs.Ascending.{Ascends, AllAscend}
 use Rattle.demand_table.specs.Demanded.{Rises, IsCalled, AreCalled, called_here, called_in}
@@ -94,7 +94,7 @@ called_rises (n ∷ ns) up = by n.callers (called_rises ns up.1)
 
 -- ---- in a table
 
-module _ (C : Checks) (R : Runs) (D : Drawing) (drawn : IsDrawn C R D) (p : Pair) where
+module _ (C : CheckedRanges) (R : Runs) (D : Drawing) (drawn : IsDrawn C R D) (p : Pair) where
   pub has_caller : (n : Node) → D p ≡ Some n → 0 < n.callers → IsCalled D p
   has_caller n is lt = some_of_count (NodeCalls D p) n.callers lt (drawn.callers p n is)
 
@@ -110,7 +110,7 @@ module _ (C : Checks) (R : Runs) (D : Drawing) (drawn : IsDrawn C R D) (p : Pair
   is_called call =
       let from = call.0 in
       let live = (drawn.live from).0 (stands (D from) call.1.0 call.1.1) in
-      let here = the_node (D p) ((drawn.live p).1 (suc live.0, (from, live.1, (entry_of call.1.0, drawn.runs from call.1.0 call.1.1, call.1.2)))) in
+      let here = the_node (D p) ((drawn.live p).1 (suc live.0, (from, live.1, (node_entry call.1.0, drawn.runs from call.1.0 call.1.1, call.1.2)))) in
       (here.0, here.1, positive here.0.callers refl (drawn.callers p here.0 here.1))
     where
       positive : (k : ℕ) → k ≡ k → IsCount (NodeCalls D p) k → 0 < k

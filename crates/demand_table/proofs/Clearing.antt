@@ -11,8 +11,8 @@ use Rattle.demand_table.specs.declared.entry.Entry.{Entry}
 use Rattle.demand_table.specs.declared.slot.Slot.{Slot}
 use Rattle.demand_table.specs.declared.node.Node.{Node}
 use Rattle.demand_table.specs.Counts.{IsCount}
-use Rattle.demand_table.specs.Drawn.{Runs, Calls}
-use Rattle.demand_table.specs.Work.{Slots, runs_in, without_run, IsSet, IsCounted, AreLowered, IsTaken}
+use Rattle.demand_table.specs.Drawn.{Runs, RunCalls}
+use Rattle.demand_table.specs.Work.{Slots, runs_in, without_run, IsSet, IsCounted, AreLowered, IsTakenOut}
 use Rattle.std.specs.Option.{option_and_then}
 use Rattle.std.specs.FinMap as map
 use Rattle.demand_table.specs.declared.node.Folder.{Folder}
@@ -31,7 +31,7 @@ out_none old new p pending many counted count none set = record {
   gone = ap (λ (s : Slot). s.entry) set.here;
   others = λ q other. ap (λ (s : Slot). s.entry) (set.others q other);
   totals = λ q other. ap (λ (s : Slot). s.total) (set.others q other);
-  counted = λ q. subst (λ (S : Runs). IsCount (λ from. Calls S from q) (new q).callers) (sym runs) (subst (λ (n : ℕ). IsCount (λ from. Calls (runs_in old) from q) n) (sym (set_callers old new p q set)) (counted q));
+  counted = λ q. subst (λ (S : Runs). IsCount (λ from. RunCalls S from q) (new q).callers) (sym runs) (subst (λ (n : ℕ). IsCount (λ from. RunCalls (runs_in old) from q) n) (sym (set_callers old new p q set)) (counted q));
   many = subst (λ (S : Runs). IsCount (λ q. IsSome (S q)) many) (sym runs) count;
   keeps = λ q at. at;
   fell = λ q none. inl (sym (set_callers old new p q set) ∙ none);
@@ -62,7 +62,7 @@ out_some old mid new p e calls pending now many counted count was set same low =
       fell = fell;
     }
   where
-    taken : IsTaken old new p e
+    taken : IsTakenOut old new p e
     taken = taken_from old mid new p e calls pending now was set same low
 
     back : (q : Pair) → IsSome (new q).entry → IsSome (old q).entry

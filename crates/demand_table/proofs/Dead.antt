@@ -8,8 +8,8 @@ use Rattle.std.proofs.lemmas.List.Elements.{Contains-push_cases}
 use Rattle.loda_semantics.specs.declared.kinds.Pair.{Pair}
 use Rattle.demand_table.specs.declared.entry.Entry.{Entry}
 use Rattle.demand_table.specs.Counts.{IsCount}
-use Rattle.demand_table.specs.Drawn.{Checks, Runs, IsChecked, Calls, ReachedAfter, IsReached, HasNoCycle}
-use Rattle.demand_table.specs.Work.{Slots, runs_in, without_run, IsSet, IsCounted, AreLowered, IsTaken, IsDropping, IsDropped, KeepsTotals}
+use Rattle.demand_table.specs.Drawn.{CheckedRanges, Runs, IsChecked, RunCalls, ReachedAfter, IsReached, HasNoCycle}
+use Rattle.demand_table.specs.Work.{Slots, runs_in, without_run, IsSet, IsCounted, AreLowered, IsTakenOut, IsDropping, IsDropped, KeepsTotals}
 use Rattle.demand_table.specs.declared.slot.Slot.{Slot}
 use Rattle.demand_table.proofs.Counts.{nil-cases, cons-cases, count_less, none_of_zero, some_of_count}
 use Rattle.demand_table.proofs.Pairs.{pair_cases, has_cases}
@@ -27,16 +27,16 @@ above f (q ∷ qs) =
       ],
     )
 
-pub live_call : (C : Checks) (R : Runs) (from to : Pair) → IsReached C R from → Calls R from to → IsReached C R to
+pub live_call : (C : CheckedRanges) (R : Runs) (from to : Pair) → IsReached C R from → RunCalls R from to → IsReached C R to
 live_call C R from to live h = (suc live.0, (from, live.1, h))
 
-pub live_checked : (C : Checks) (R : Runs) (p : Pair) → IsChecked C p → IsReached C R p
+pub live_checked : (C : CheckedRanges) (R : Runs) (p : Pair) → IsChecked C p → IsReached C R p
 live_checked C R p h = (zero, h)
 
-module _ (C : Checks) (R : Runs) (w : Slots) where
-  module _ (rank : Pair → ℕ) (falls : (from to : Pair) → Calls R from to → rank to < rank from)
+module _ (C : CheckedRanges) (R : Runs) (w : Slots) where
+  module _ (rank : Pair → ℕ) (falls : (from to : Pair) → RunCalls R from to → rank to < rank from)
       (within : (p : Pair) (e : Entry) → (w p).entry ≡ Some e → R p ≡ Some e)
-      (called : (p : Pair) → IsSome (w p).entry → IsChecked C p ⊎ ((from : Pair) × Calls (runs_in w) from p))
+      (called : (p : Pair) → IsSome (w p).entry → IsChecked C p ⊎ ((from : Pair) × RunCalls (runs_in w) from p))
       (top : ℕ) (low : (p : Pair) → IsSome (w p).entry → rank p < top) where
     -- up along callers, whose ranks rise, to a checked pair
     live_from : (room : ℕ) (p : Pair) → IsSome (w p).entry → top ≤ rank p + room → IsReached C R p
@@ -45,7 +45,7 @@ module _ (C : Checks) (R : Runs) (w : Slots) where
         elim (called p here) [
           | inl checked ↦ live_checked C R p checked
           | inr h ↦
-              let call : Calls R h.0 p = (h.1.0, within h.0 h.1.0 h.1.1, h.1.2) in
+              let call : RunCalls R h.0 p = (h.1.0, within h.0 h.1.0 h.1.1, h.1.2) in
               let up : rank p < rank h.0 = falls h.0 p call in
               live_call C R h.0 p (live_from room h.0 (is_some (w h.0).entry h.1.0 h.1.1) (omega arith)) call
         ]
@@ -62,12 +62,12 @@ module _ (C : Checks) (R : Runs) (w : Slots) where
         many = h.many;
       }
     where
-      called : (p : Pair) → IsSome (w p).entry → IsChecked C p ⊎ ((from : Pair) × Calls (runs_in w) from p)
+      called : (p : Pair) → IsSome (w p).entry → IsChecked C p ⊎ ((from : Pair) × RunCalls (runs_in w) from p)
       called p here = by (cases_eq (w p).callers 0)
         where
-          by : ((w p).callers ≡ 0) ⊎ ((w p).callers ≡ 0 → ⊥) → IsChecked C p ⊎ ((from : Pair) × Calls (runs_in w) from p)
+          by : ((w p).callers ≡ 0) ⊎ ((w p).callers ≡ 0 → ⊥) → IsChecked C p ⊎ ((from : Pair) × RunCalls (runs_in w) from p)
           by (inl none) = elim (h.waiting p here none) [ inl c ↦ inl c | inr at ↦ absurd (nil-cases p at) ]
-          by (inr some) = inr (some_of_count (λ from. Calls (runs_in w) from p) (w p).callers (omega arith) (h.counted p))
+          by (inr some) = inr (some_of_count (λ from. RunCalls (runs_in w) from p) (w p).callers (omega arith) (h.counted p))
 
   -- a pair that needs no look: it has no run, or is called, or is checked
   pub passed_over : (pending : List Pair) (p : Pair) (left : ℕ) → IsDropping C R w (pending ++ p ∷ []) left
@@ -90,20 +90,20 @@ module _ (C : Checks) (R : Runs) (w : Slots) where
   pub not_live : (pending : List Pair) (left : ℕ) (p : Pair) → IsDropping C R w pending left → (w p).callers ≡ 0 → (IsChecked C p → ⊥) → IsReached C R p → ⊥
   not_live pending left p h none unchecked live = by live.0 live.1
     where
-      called : (from : Pair) → IsReached C R from → Calls R from p → ⊥
+      called : (from : Pair) → IsReached C R from → RunCalls R from p → ⊥
       called from up call =
           let there = some_is (w from).entry (h.kept from up) in
           let same = same_entry (R from) call.0 there.0 call.1 (h.within from there.0 there.1) in
-          let here : Calls (runs_in w) from p = (there.0, there.1, subst (λ (f : Entry). Contains f.calls p) same call.2) in
-          none_of_zero (λ from. Calls (runs_in w) from p) (subst (λ (n : ℕ). IsCount (λ from. Calls (runs_in w) from p) n) none (h.counted p)) from here
+          let here : RunCalls (runs_in w) from p = (there.0, there.1, subst (λ (f : Entry). Contains f.calls p) same call.2) in
+          none_of_zero (λ from. RunCalls (runs_in w) from p) (subst (λ (n : ℕ). IsCount (λ from. RunCalls (runs_in w) from p) n) none (h.counted p)) from here
 
       by : (n : ℕ) → ReachedAfter C R n p → ⊥
       by zero h = unchecked h
       by (suc n) h = called h.0 (n, h.1) h.2
 
 -- a dead run is taken out, and what it called is looked at where nobody else calls it
-pub dropped : (C : Checks) (R : Runs) (old new : Slots) (pending now : List Pair) (p : Pair) (e : Entry) (left : ℕ)
-    → IsDropping C R old (pending ++ p ∷ []) left → IsTaken old new p e → (old p).callers ≡ 0 → (IsChecked C p → ⊥)
+pub dropped : (C : CheckedRanges) (R : Runs) (old new : Slots) (pending now : List Pair) (p : Pair) (e : Entry) (left : ℕ)
+    → IsDropping C R old (pending ++ p ∷ []) left → IsTakenOut old new p e → (old p).callers ≡ 0 → (IsChecked C p → ⊥)
     → ((q : Pair) → Contains pending q → Contains now q) → ((q : Pair) → Contains e.calls q → (new q).callers ≡ 0 → Contains now q)
     → (m : ℕ) × (left ≡ suc m) × IsDropping C R new now m
 dropped C R old new pending now p e left h taken none unchecked keeps adds =
@@ -140,27 +140,27 @@ dropped C R old new pending now p e left h taken none unchecked keeps adds =
 -- ---- the steps of the loop
 
 -- what a run calls has a caller
-pub called_some : (w : Slots) (from to : Pair) → IsCounted w → Calls (runs_in w) from to → 0 < (w to).callers
+pub called_some : (w : Slots) (from to : Pair) → IsCounted w → RunCalls (runs_in w) from to → 0 < (w to).callers
 called_some w from to counted call = by (cases_eq (w to).callers 0)
   where
     by : ((w to).callers ≡ 0) ⊎ ((w to).callers ≡ 0 → ⊥) → 0 < (w to).callers
-    by (inl none) = absurd (none_of_zero (λ from. Calls (runs_in w) from to) (subst (λ (n : ℕ). IsCount (λ from. Calls (runs_in w) from to) n) none (counted to)) from call)
+    by (inl none) = absurd (none_of_zero (λ from. RunCalls (runs_in w) from to) (subst (λ (n : ℕ). IsCount (λ from. RunCalls (runs_in w) from to) n) none (counted to)) from call)
     by (inr some) = omega arith
 
 -- slots with the same runs and as many callers
-pub dropping_same : (C : Checks) (R : Runs) (old new : Slots) (pending : List Pair) (left : ℕ)
+pub dropping_same : (C : CheckedRanges) (R : Runs) (old new : Slots) (pending : List Pair) (left : ℕ)
     → ((q : Pair) → (new q).entry ≡ (old q).entry) → ((q : Pair) → (new q).callers ≡ (old q).callers) → IsDropping C R old pending left → IsDropping C R new pending left
 dropping_same C R old new pending left entry callers h =
     let runs : runs_in new ≡ runs_in old = λ i q. entry q i in
     record {
       within = λ p e is. h.within p e (sym (entry p) ∙ is);
       kept = λ p live. subst (λ (o : Option Entry). IsSome o) (sym (entry p)) (h.kept p live);
-      counted = λ q. subst (λ (S : Runs). IsCount (λ from. Calls S from q) (new q).callers) (sym runs) (subst (λ (n : ℕ). IsCount (λ from. Calls (runs_in old) from q) n) (sym (callers q)) (h.counted q));
+      counted = λ q. subst (λ (S : Runs). IsCount (λ from. RunCalls S from q) (new q).callers) (sym runs) (subst (λ (n : ℕ). IsCount (λ from. RunCalls (runs_in old) from q) n) (sym (callers q)) (h.counted q));
       waiting = λ p here none. h.waiting p (subst (λ (o : Option Entry). IsSome o) (entry p) here) (sym (callers p) ∙ none);
       many = subst (λ (S : Runs). IsCount (λ p. IsSome (S p)) left) (sym runs) h.many;
     }
 
-pub dropping_copied : (C : Checks) (R : Runs) (old new : Slots) (pending : List Pair) (left : ℕ) → ((q : Pair) → new q ≡ old q) → IsDropping C R old pending left → IsDropping C R new pending left
+pub dropping_copied : (C : CheckedRanges) (R : Runs) (old new : Slots) (pending : List Pair) (left : ℕ) → ((q : Pair) → new q ≡ old q) → IsDropping C R old pending left → IsDropping C R new pending left
 dropping_copied C R old new pending left same h = dropping_same C R old new pending left (λ q. ap (λ (s : Slot). s.entry) (same q)) (λ q. ap (λ (s : Slot). s.callers) (same q)) h
 
 -- taking a run out leaves the callers
@@ -171,7 +171,7 @@ set_callers old new p q set = elim (pair_cases q p) [
 ]
 
 -- a slot without a run is emptied
-pub emptied : (C : Checks) (R : Runs) (old new : Slots) (pending : List Pair) (left : ℕ) (p : Pair) → IsSet old new p (without_run (old p)) → (old p).entry ≡ None
+pub emptied : (C : CheckedRanges) (R : Runs) (old new : Slots) (pending : List Pair) (left : ℕ) (p : Pair) → IsSet old new p (without_run (old p)) → (old p).entry ≡ None
     → IsDropping C R old pending left → IsDropping C R new pending left
 emptied C R old new pending left p set none h = dropping_same C R old new pending left entry callers h
   where
@@ -186,7 +186,7 @@ emptied C R old new pending left p set none h = dropping_same C R old new pendin
 
 -- a run is taken out, and then the callers of what it called are lowered
 pub taken_from : (old mid new : Slots) (p : Pair) (e : Entry) (calls pending now : List Pair) → (old p).entry ≡ Some e → IsSet old mid p (without_run (old p)) → calls ≡ e.calls
-    → AreLowered mid new calls pending now → IsTaken old new p e
+    → AreLowered mid new calls pending now → IsTakenOut old new p e
 taken_from old mid new p e calls pending now was set same h = record {
   was = was;
   gone = h.entry p ∙ ap (λ (s : Slot). s.entry) set.here;

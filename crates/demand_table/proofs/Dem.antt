@@ -10,8 +10,8 @@ use Rattle.seq_calls.specs.Runs.{HasValues}
 use Rattle.seq_calls.proofs.Records.{AreAnswered, answered_name}
 use Rattle.demand_table.specs.declared.entry.Entry.{Entry}
 use Rattle.demand_table.specs.declared.node.Node.{Node}
-use Rattle.demand_table.specs.Drawn.{Calls as CallsIn, IsReached, Drawing, NodeCalls, entry_of}
-use Rattle.demand_table.specs.Table.{runs_in_library, checks_in_store, IsTable}
+use Rattle.demand_table.specs.Drawn.{RunCalls as CallsIn, IsReached, Drawing, NodeCalls, node_entry}
+use Rattle.demand_table.specs.Table.{runs_in_library, checks_in_store, IsDemandTable}
 use Rattle.demand_table.proofs.Counts.{cons-here, cons-more}
 use Rattle.demand_table.proofs.Counted.{some_is, is_some, same_entry}
 use Rattle.demand_table.proofs.Pairs.{same_parts}
@@ -43,12 +43,12 @@ module _ (s : Store) where
       traced_caller calls (answered_name (programs_of s) ample d.0 (pos d.1) v.0 v.1 calls is) top (0, is_checked_at s top d.2.0 d.1 d.2.1 d.2.2 refl)
       (λ to at. (_, entry_with (programs_of s) top v.0 v.1 calls is, at)) p d.2.3
 
-  module _ (D : Drawing) (table : IsTable s D) where
+  module _ (D : Drawing) (table : IsDemandTable s D) where
     -- a caller of a pair has a node, and so has the pair
     pub node_calls : (from p : Pair) → IsReached (checks_in_store s) (runs_in_library (programs_of s)) from → CallsIn (runs_in_library (programs_of s)) from p → NodeCalls D p from
     node_calls from p live h =
         let node = some_is (D from) ((table.live from).1 live) in
-        let same = same_entry (runs_in_library (programs_of s) from) h.0 (entry_of node.0) h.1 (table.runs from node.0 node.1) in
+        let same = same_entry (runs_in_library (programs_of s) from) h.0 (node_entry node.0) h.1 (table.runs from node.0 node.1) in
         (node.0, node.1, subst (λ (e : Entry). Contains e.calls p) same h.2)
 
     some_thing : (things : List Pair) → 0 < length things → (x : Pair) × Contains things x
@@ -73,4 +73,4 @@ module _ (s : Store) where
         let calls = (count.exact from.0).1 from.1 in
         let live = (table.live from.0).0 (is_some (D from.0) calls.0 calls.1) in
         let values = table_values s D table in
-        called_demanded s values from.0 p (live_forth s values live.0 from.0 live.1) (entry_of calls.0, table.runs from.0 calls.0 calls.1, calls.2)
+        called_demanded s values from.0 p (live_forth s values live.0 from.0 live.1) (node_entry calls.0, table.runs from.0 calls.0 calls.1, calls.2)

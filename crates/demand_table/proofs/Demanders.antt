@@ -15,9 +15,9 @@ use Rattle.seq_calls.proofs.Records.{AreAnswered, answered_name}
 use Rattle.seq_calls.proofs.Relied.{is_checked, traced}
 use Rattle.demand_table.specs.declared.node.Node.{Node}
 use Rattle.demand_table.specs.declared.entry.Entry.{Entry}
-use Rattle.demand_table.specs.Drawn.{IsReached, Drawing, entry_of}
+use Rattle.demand_table.specs.Drawn.{IsReached, Drawing, node_entry}
 use Rattle.demand_table.specs.Leading.{calls_at, Leads, LeadsTo, IsFirstLeading}
-use Rattle.demand_table.specs.Table.{runs_in_library, checks_in_store, IsTable}
+use Rattle.demand_table.specs.Table.{runs_in_library, checks_in_store, IsDemandTable}
 use Rattle.demand_table.proofs.Counts.{nil-cases, cons-here, cons-more}
 use Rattle.demand_table.proofs.Counted.{some_is, same_entry}
 use Rattle.demand_table.proofs.Pairs.{same_parts}
@@ -28,7 +28,7 @@ use Rattle.demand_table.proofs.Live.{direct_traced, is_checked_at, table_values}
 abbrev pub NoneUpTo : Store → ℕ → ℤ → ℕ → Type 0
 NoneUpTo s q x last = (c i : ℕ) → c ≤ last → Demands s c i q x → ⊥
 
-module _ (s : Store) (D : Drawing) (table : IsTable s D) where
+module _ (s : Store) (D : Drawing) (table : IsDemandTable s D) where
   calls_is : (p : Pair) (n : Node) → D p ≡ Some n → calls_at D p ≡ n.calls
   calls_is p n is = ap (λ (o : Option Node). option_map_or (λ (n : Node). n.calls) o []) is
 
@@ -36,7 +36,7 @@ module _ (s : Store) (D : Drawing) (table : IsTable s D) where
   same_calls : (p : Pair) (n : Node) → D p ≡ Some n → (v : ℤ) (used : ℕ) (c : CallRecords) → run_name (programs_of s) p.name p.arg ample ≡ (value v used, c) → calls_at D p ≡ direct c
   same_calls p n is v used c ran =
       calls_is p n is
-      ∙ ap (λ (e : Entry). e.calls) (same_entry (runs_in_library (programs_of s) p) (entry_of n) _ (table.runs p n is) (entry_with (programs_of s) p v used c ran))
+      ∙ ap (λ (e : Entry). e.calls) (same_entry (runs_in_library (programs_of s) p) (node_entry n) _ (table.runs p n is) (entry_with (programs_of s) p v used c ran))
 
   has_node : (p : Pair) → IsReached (checks_in_store s) (runs_in_library (programs_of s)) p → (n : Node) × (D p ≡ Some n)
   has_node p live = some_is (D p) ((table.live p).1 live)
@@ -59,7 +59,7 @@ module _ (s : Store) (D : Drawing) (table : IsTable s D) where
       onward : (from to : Pair) → IsReached (checks_in_store s) (runs_in_library (programs_of s)) from → Contains (calls_at D from) to → IsReached (checks_in_store s) (runs_in_library (programs_of s)) to
       onward from to live at =
           let node = has_node from live in
-          (suc live.0, (from, live.1, (entry_of node.0, table.runs from node.0 node.1, subst (λ (l : List Pair). Contains l to) (calls_is from node.0 node.1) at)))
+          (suc live.0, (from, live.1, (node_entry node.0, table.runs from node.0 node.1, subst (λ (l : List Pair). Contains l to) (calls_is from node.0 node.1) at)))
   trace_leads (call r y o inner rest) h from live calls p (inr (inr t)) = trace_leads rest h.2 from live (λ to at. calls to (cons-more (pair r y) (direct rest) to at)) p t
 
   pub demands_leads : (c i q : ℕ) (x : ℤ) → Demands s c i q x → LeadsTo D (pair c (pos i)) (pair q x)

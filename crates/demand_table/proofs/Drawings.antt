@@ -10,7 +10,7 @@ use Rattle.demand_table.specs.declared.entry.Entry.{Entry}
 use Rattle.demand_table.specs.declared.node.Node.{Node}
 use Rattle.demand_table.specs.declared.slot.Slot.{Slot}
 use Rattle.demand_table.specs.Counts.{IsCount}
-use Rattle.demand_table.specs.Drawn.{Checks, Runs, IsChecked, Calls, ReachedAfter, IsReached, IsClosed, HasNoCycle, AreTotals, Drawing, entry_of, total_at, NodeCalls, IsDrawn}
+use Rattle.demand_table.specs.Drawn.{CheckedRanges, Runs, IsChecked, RunCalls, ReachedAfter, IsReached, IsClosed, HasNoCycle, AreTotals, Drawing, node_entry, total_at, NodeCalls, IsDrawn}
 use Rattle.demand_table.specs.Work.{Slots, runs_in, IsCounted, IsDropping, IsDropped}
 use Rattle.demand_table.specs.Settling.{IsUnsettled, CanSettle, Settles}
 use Rattle.demand_table.specs.Mended.{node_with, node_from, drawing_of}
@@ -31,14 +31,14 @@ sum_by-same f g (p ∷ ps) same =
 -- ---- at the start of dropping
 
 -- in closed runs each live pair has one
-pub live_stands : (C : Checks) (R : Runs) (p : Pair) → IsClosed C R → IsReached C R p → IsSome (R p)
+pub live_stands : (C : CheckedRanges) (R : Runs) (p : Pair) → IsClosed C R → IsReached C R p → IsSome (R p)
 live_stands C R p closed live = by live.0 live.1
   where
     by : (n : ℕ) → ReachedAfter C R n p → IsSome (R p)
     by zero h = closed.checked p h
     by (suc n) h = closed.called h.0 p h.2
 
-pub can_drop : (C : Checks) (w : Slots) (pending : List Pair) (many : ℕ) → IsClosed C (runs_in w) → IsCounted w → IsCount (λ p. IsSome (w p).entry) many
+pub can_drop : (C : CheckedRanges) (w : Slots) (pending : List Pair) (many : ℕ) → IsClosed C (runs_in w) → IsCounted w → IsCount (λ p. IsSome (w p).entry) many
     → ((p : Pair) → IsSome (w p).entry → (w p).callers ≡ 0 → IsChecked C p ⊎ Contains pending p) → IsDropping C (runs_in w) w pending many
 can_drop C w pending many closed counted count waiting = record {
   within = λ p e is. is;
@@ -50,9 +50,9 @@ can_drop C w pending many closed counted count waiting = record {
 
 -- ---- totals of the old table that stay right
 
-module _ (C : Checks) (R : Runs) (D : Drawing) (drawn : IsDrawn C R D) (May : ℕ → Type 0) (S : Runs) (total rank : Pair → ℕ) (sums : AreTotals S total)
-    (falls : (from to : Pair) → Calls S from to → rank to < rank from)
-    (same : (p : Pair) (n : Node) → (May p.name → ⊥) → D p ≡ Some n → S p ≡ Some (entry_of n))
+module _ (C : CheckedRanges) (R : Runs) (D : Drawing) (drawn : IsDrawn C R D) (May : ℕ → Type 0) (S : Runs) (total rank : Pair → ℕ) (sums : AreTotals S total)
+    (falls : (from to : Pair) → RunCalls S from to → rank to < rank from)
+    (same : (p : Pair) (n : Node) → (May p.name → ⊥) → D p ≡ Some n → S p ≡ Some (node_entry n))
     (covers : (p to : Pair) (n : Node) → D p ≡ Some n → Contains n.calls to → May to.name → May p.name) where
   node_some : (o : Option Node) → IsSome o → (n : Node) × (o ≡ Some n)
   node_some None h = cc
@@ -68,19 +68,19 @@ module _ (C : Checks) (R : Runs) (D : Drawing) (drawn : IsDrawn C R D) (May : �
   total_below (suc room) p n off is lt =
       drawn.totals p n is ∙ ap (λ (k : ℕ). n.own + k) (sum_by-same (total_at D) total n.calls (λ to at.
       read to (there to at).0 (there to at).1 ∙ total_below room to (there to at).0 (λ may. off (covers p to n is at may)) (there to at).1 (let down = falls p to (call to at) in omega arith)))
-      ∙ sym (sums p (entry_of n) run)
+      ∙ sym (sums p (node_entry n) run)
     where
-      run : S p ≡ Some (entry_of n)
+      run : S p ≡ Some (node_entry n)
       run = same p n off is
 
-      call : (to : Pair) → Contains n.calls to → Calls S p to
-      call to at = (entry_of n, run, at)
+      call : (to : Pair) → Contains n.calls to → RunCalls S p to
+      call to at = (node_entry n, run, at)
 
       live : IsReached C R p
       live = (drawn.live p).0 (node_is (D p) n is)
 
       there : (to : Pair) → Contains n.calls to → (m : Node) × (D to ≡ Some m)
-      there to at = node_some (D to) ((drawn.live to).1 (live_call C R p to live (entry_of n, drawn.runs p n is, at)))
+      there to at = node_some (D to) ((drawn.live to).1 (live_call C R p to live (node_entry n, drawn.runs p n is, at)))
 
       read : (to : Pair) (m : Node) → D to ≡ Some m → total_at D to ≡ m.total
       read to m e = ap (λ (o : Option Node). option_map_or (λ (k : Node). k.total) o 0) e
@@ -109,7 +109,7 @@ total_cases : (o : Option ℕ) → (o ≡ None) ⊎ ((t : ℕ) × (o ≡ Some t)
 total_cases None = inl refl
 total_cases (Some t) = inr (t, refl)
 
-module _ (C : Checks) (R : Runs) (w : Slots) (left : ℕ) (dropped : IsDropped C R w left) (can : CanSettle w) (settled : (p : Pair) → IsUnsettled w p → ⊥) where
+module _ (C : CheckedRanges) (R : Runs) (w : Slots) (left : ℕ) (dropped : IsDropped C R w left) (can : CanSettle w) (settled : (p : Pair) → IsUnsettled w p → ⊥) where
   total_is : (p : Pair) → IsSome (w p).entry → unwrap_or (w p).total 0 ≡ can.total p
   total_is p here = by (total_cases (w p).total)
     where
@@ -122,10 +122,10 @@ module _ (C : Checks) (R : Runs) (w : Slots) (left : ℕ) (dropped : IsDropped C
       let there = some_is (w p).entry here in
       ap (λ (o : Option Node). option_map_or (λ (k : Node). k.total) o 0) (from_entry p (w p) (w p).entry there.0 there.1) ∙ total_is p here
 
-  calls_node : (from to : Pair) → Calls (runs_in w) from to → NodeCalls (drawing_of w) to from
+  calls_node : (from to : Pair) → RunCalls (runs_in w) from to → NodeCalls (drawing_of w) to from
   calls_node from to h = (node_with from (w from) h.0, from_entry from (w from) (w from).entry h.0 h.1, h.2)
 
-  node_calls : (from to : Pair) → NodeCalls (drawing_of w) to from → Calls (runs_in w) from to
+  node_calls : (from to : Pair) → NodeCalls (drawing_of w) to from → RunCalls (runs_in w) from to
   node_calls from to h =
       let e = from_some from (w from) (w from).entry h.0 h.1 in
       (e.0, e.1, subst (λ (n : Node). Contains n.calls to) e.2 h.2)
@@ -134,12 +134,12 @@ module _ (C : Checks) (R : Runs) (w : Slots) (left : ℕ) (dropped : IsDropped C
   pub drawn_from : IsDrawn C R (drawing_of w)
   drawn_from = record {
     live = λ p. (λ h. dropped.live p (from_is p (w p) (w p).entry h), λ live. from_has p (w p) (w p).entry (dropped.kept p live));
-    runs = λ p n is. let e = from_some p (w p) (w p).entry n is in dropped.within p e.0 e.1 ∙ ap (λ (m : Node). Some (entry_of m)) (sym e.2);
+    runs = λ p n is. let e = from_some p (w p) (w p).entry n is in dropped.within p e.0 e.1 ∙ ap (λ (m : Node). Some (node_entry m)) (sym e.2);
     totals = totals;
     callers = λ p n is.
         let e = from_some p (w p) (w p).entry n is in
         subst (λ (k : ℕ). IsCount (NodeCalls (drawing_of w) p) k) (sym (ap (λ (m : Node). m.callers) e.2))
-        (count_same (λ from. Calls (runs_in w) from p) (NodeCalls (drawing_of w) p) (w p).callers (λ from h. calls_node from p h) (λ from h. node_calls from p h) (dropped.counted p));
+        (count_same (λ from. RunCalls (runs_in w) from p) (NodeCalls (drawing_of w) p) (w p).callers (λ from h. calls_node from p h) (λ from h. node_calls from p h) (dropped.counted p));
   }
     where
       totals : (p : Pair) (n : Node) → drawing_of w p ≡ Some n → n.total ≡ n.own + sum_by (total_at (drawing_of w)) n.calls
@@ -155,7 +155,7 @@ module _ (C : Checks) (R : Runs) (w : Slots) (left : ℕ) (dropped : IsDropped C
 -- ---- one table
 
 -- two tables of the same checks and runs are equal at each pair
-module _ (C : Checks) (R : Runs) (acyclic : HasNoCycle R) (closed : IsClosed C R) (D E : Drawing) (d : IsDrawn C R D) (e : IsDrawn C R E) where
+module _ (C : CheckedRanges) (R : Runs) (acyclic : HasNoCycle R) (closed : IsClosed C R) (D E : Drawing) (d : IsDrawn C R D) (e : IsDrawn C R E) where
   cases : (F : Drawing) (p : Pair) → (F p ≡ None) ⊎ ((n : Node) × (F p ≡ Some n))
   cases F p = by (F p)
     where
@@ -171,21 +171,21 @@ module _ (C : Checks) (R : Runs) (acyclic : HasNoCycle R) (closed : IsClosed C R
   no_node None h k = cc
   no_node (Some m) h k = cc
 
-  pub entries : (p : Pair) (n m : Node) → D p ≡ Some n → E p ≡ Some m → entry_of n ≡ entry_of m
-  entries p n m a b = same_entry (R p) (entry_of n) (entry_of m) (d.runs p n a) (e.runs p m b)
+  pub entries : (p : Pair) (n m : Node) → D p ≡ Some n → E p ≡ Some m → node_entry n ≡ node_entry m
+  entries p n m a b = same_entry (R p) (node_entry n) (node_entry m) (d.runs p n a) (e.runs p m b)
 
   total_one : (room : ℕ) (p : Pair) (n m : Node) → D p ≡ Some n → E p ≡ Some m → acyclic.0 p < room → n.total ≡ m.total
   total_one zero p n m a b lt = absurd (omega arith)
   total_one (suc room) p n m a b lt =
       d.totals p n a ∙ ap (λ (k : ℕ). n.own + k) (sum_by-same (total_at D) (total_at E) n.calls (λ to at.
-      by to at (cases D to) (cases E to) (λ x y f g. total_one room to x y f g (let down = acyclic.1 p to (entry_of n, d.runs p n a, at) in omega arith))))
+      by to at (cases D to) (cases E to) (λ x y f g. total_one room to x y f g (let down = acyclic.1 p to (node_entry n, d.runs p n a, at) in omega arith))))
       ∙ ap (λ (x : Entry). x.own + sum_by (total_at E) x.calls) (entries p n m a b) ∙ sym (e.totals p m b)
     where
       live : IsReached C R p
       live = (d.live p).0 (is_node (D p) n a)
 
       called : (to : Pair) → Contains n.calls to → IsReached C R to
-      called to at = live_call C R p to live (entry_of n, d.runs p n a, at)
+      called to at = live_call C R p to live (node_entry n, d.runs p n a, at)
 
       read : (F : Drawing) (to : Pair) (x : Node) → F to ≡ Some x → total_at F to ≡ x.total
       read F to x f = ap (λ (o : Option Node). option_map_or (λ (k : Node). k.total) o 0) f
@@ -202,7 +202,7 @@ module _ (C : Checks) (R : Runs) (acyclic : HasNoCycle R) (closed : IsClosed C R
       by : (G from ≡ None) ⊎ ((m : Node) × (G from ≡ Some m)) → NodeCalls G p from
       by (inl none) = absurd (no_node (G from) none ((g.live from).1 ((f.live from).0 (is_node (F from) h.0 h.1))))
       by (inr m) =
-          let same : entry_of h.0 ≡ entry_of m.0 = same_entry (R from) (entry_of h.0) (entry_of m.0) (f.runs from h.0 h.1) (g.runs from m.0 m.1) in
+          let same : node_entry h.0 ≡ node_entry m.0 = same_entry (R from) (node_entry h.0) (node_entry m.0) (f.runs from h.0 h.1) (g.runs from m.0 m.1) in
           (m.0, m.1, subst (λ (x : Entry). Contains x.calls p) same h.2)
 
   pub callers_one : (p : Pair) (n m : Node) → D p ≡ Some n → E p ≡ Some m → n.callers ≡ m.callers

@@ -12,7 +12,7 @@ use Rattle.demand_table.specs.declared.node.Node.{Node}
 use Rattle.demand_table.specs.declared.node.Folder.{Folder}
 use Rattle.demand_table.specs.declared.range.Range.{Range}
 use Rattle.demand_table.specs.Counts.{IsCount}
-use Rattle.demand_table.specs.Drawn.{Checks, Runs, IsChecked, Calls, ReachedAfter, IsReached, Drawing, entry_of, IsDrawn}
+use Rattle.demand_table.specs.Drawn.{CheckedRanges, Runs, IsChecked, RunCalls, ReachedAfter, IsReached, Drawing, node_entry, IsDrawn}
 use Rattle.demand_table.specs.Loaded.{Folders, node_in, node_at, checks_of}
 use Rattle.demand_table.specs.Mended.{runs_of}
 use Rattle.demand_table.specs.Ascending.{AllAscend}
@@ -21,7 +21,7 @@ use Rattle.demand_table.specs.Held.{IsHeld}
 use Rattle.demand_table.proofs.Counts.{nil-cases}
 use Rattle.demand_table.proofs.Filing.{range_of}
 
-module _ (D : Drawing) (C : Checks) (none : (p : Pair) → D p ≡ None) (free : (q : ℕ) → C q ≡ None) where
+module _ (D : Drawing) (C : CheckedRanges) (none : (p : Pair) → D p ≡ None) (free : (q : ℕ) → C q ≡ None) where
   no_node : (o : Option Node) (n : Node) → o ≡ None → o ≡ Some n → ⊥
   no_node o n e f = let g : None ≡ Some n = sym e ∙ f in cc
 
@@ -29,7 +29,7 @@ module _ (D : Drawing) (C : Checks) (none : (p : Pair) → D p ≡ None) (free :
   no_some None e h = cc
   no_some (Some n) e h = cc
 
-  no_run : (o : Option Node) (e : Entry) → o ≡ None → option_map entry_of o ≡ Some e → ⊥
+  no_run : (o : Option Node) (e : Entry) → o ≡ None → option_map node_entry o ≡ Some e → ⊥
   no_run None e f h = cc
   no_run (Some n) e f h = cc
 

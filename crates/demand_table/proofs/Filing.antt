@@ -25,8 +25,8 @@ use Rattle.demand_table.specs.declared.node.Folder.{Folder}
 use Rattle.demand_table.specs.declared.range.Range.{Range}
 use Rattle.demand_table.specs.declared.slot.Slot.{Slot}
 use Rattle.demand_table.specs.declared.work.Work.{Work}
-use Rattle.demand_table.specs.Drawn.{Checks, with_range, entry_of}
-use Rattle.demand_table.specs.Loaded.{Folders, slot_at, slot_of, slot_in, slot_with, slots_of, node_in, node_at, the_pair, checks_of, blank}
+use Rattle.demand_table.specs.Drawn.{CheckedRanges, with_range, node_entry}
+use Rattle.demand_table.specs.Loaded.{Folders, slot_at, slot_of, slot_in, slot_with, slots_of, node_in, node_at, the_pair, checks_of, blank_slot}
 use Rattle.demand_table.specs.Mended.{node_with, node_from, drawing_of}
 use Rattle.demand_table.specs.Written.{node_here, nodes_from}
 use Rattle.demand_table.specs.Ascending.{Ascends, AllAscend}
@@ -233,10 +233,10 @@ written_down first now work h = record {
 
 -- ---- all folders, with that of the replaced name
 
-pub range_here : (C : Checks) (name : ℕ) (range : Range) (q : ℕ) → q ≡ name → with_range C name range q ≡ Some range
+pub range_here : (C : CheckedRanges) (name : ℕ) (range : Range) (q : ℕ) → q ≡ name → with_range C name range q ≡ Some range
 range_here C name range q e = ap (λ (b : Bool). if b then Some range else C q) ((Decides-eqb q name).1 e)
 
-pub range_off : (C : Checks) (name : ℕ) (range : Range) (q : ℕ) → (q ≡ name → ⊥) → with_range C name range q ≡ C q
+pub range_off : (C : CheckedRanges) (name : ℕ) (range : Range) (q : ℕ) → (q ≡ name → ⊥) → with_range C name range q ≡ C q
 range_off C name range q other = ap (λ (b : Bool). if b then Some range else C q) (by (q == name) refl)
   where
     by : (b : Bool) → (q == name) ≡ b → (q == name) ≡ false

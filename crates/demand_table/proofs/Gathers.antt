@@ -21,7 +21,7 @@ use Rattle.seq_calls.proofs.Bounded.{with_steps}
 use Rattle.seq_calls.proofs.Members.{members_are_runs}
 use Rattle.demand_table.specs.declared.entry.Entry.{Entry}
 use Rattle.demand_table.specs.declared.gathering.Gathered.{Gathered}
-use Rattle.demand_table.specs.Drawn.{Calls, IsReached}
+use Rattle.demand_table.specs.Drawn.{RunCalls, IsReached}
 use Rattle.demand_table.specs.Gathered.{AreLiveRuns, HasRunAt, KeepsRuns, HasFirstRuns, HasRunsUpTo}
 use Rattle.demand_table.specs.Loaded.{Folders}
 use Rattle.demand_table.specs.Mended.{run_of, run_at, either}
@@ -29,7 +29,7 @@ use Rattle.demand_table.specs.Mending.{IsMending}
 use Rattle.demand_table.specs.Nodes.{HasCheckedValues}
 use Rattle.demand_table.specs.Reaching.{Index, Grows, HasRuns}
 use Rattle.demand_table.specs.Table.{runs_in_library, checks_in_store}
-use Rattle.demand_table.specs.Upward.{names_under}
+use Rattle.demand_table.specs.Upward.{names_filed_under}
 use Rattle.demand_table.specs.Work.{Slots, runs_in}
 use Rattle.demand_table.proofs.Counts.{nil-cases, cons-cases, cons-here}
 use Rattle.demand_table.proofs.Counted.{some_is, is_some}
@@ -162,7 +162,7 @@ module _ (s : Store) (limit : ℕ) (fits : limit < 2 ^ 64) (checked : HasChecked
           by_case e (inl o) = h.live p (is_some (old p).entry e o)
           by_case e (inr r) = subst (IsReached (checks_in_store s) (runs_in_library (programs_of s))) r.2 (frame_live r.0 (in_run r.0 r.1))
 
-      closed : (from to : Pair) → Calls (runs_in new) from to → IsSome (new to).entry
+      closed : (from to : Pair) → RunCalls (runs_in new) from to → IsSome (new to).entry
       closed from to k = by_case (stands_by from k.0 k.1)
         where
           by_case : ((old from).entry ≡ Some k.0) ⊎ ((r : NodeRun) × Contains frames r × (r.pair ≡ from) × (run_of r ≡ k.0)) → IsSome (new to).entry
@@ -174,13 +174,13 @@ module _ (s : Store) (limit : ℕ) (fits : limit < 2 ^ 64) (checked : HasChecked
               let at : Contains frames node.0 = subst (λ (l : List NodeRun). Contains l node.0) (sym are) node.1 in
               subst (λ (z : Pair). IsSome (new z).entry) node.2 (frame_there node.0 at)
 
-      covers : (from to : Pair) → Calls (runs_in new) from to → IsName to.name → Contains (names_under grown to.name) from.name
+      covers : (from to : Pair) → RunCalls (runs_in new) from to → IsName to.name → Contains (names_filed_under grown to.name) from.name
       covers from to k named = by_case (stands_by from k.0 k.1)
         where
-          by_case : ((old from).entry ≡ Some k.0) ⊎ ((r : NodeRun) × Contains frames r × (r.pair ≡ from) × (run_of r ≡ k.0)) → Contains (names_under grown to.name) from.name
+          by_case : ((old from).entry ≡ Some k.0) ⊎ ((r : NodeRun) × Contains frames r × (r.pair ≡ from) × (run_of r ≡ k.0)) → Contains (names_filed_under grown to.name) from.name
           by_case (inl o) = grows to.name from.name (h.covers from to (k.0, o, k.2) named)
           by_case (inr r) =
-              subst (λ (z : Pair). Contains (names_under grown to.name) z.name) r.2
+              subst (λ (z : Pair). Contains (names_filed_under grown to.name) z.name) r.2
               (has r.0 r.1 to (subst (λ (z : Entry). Contains z.calls to) (sym r.3) k.2) named)
 
       listed : (p : Pair) → IsSome (new p).entry → Contains now p

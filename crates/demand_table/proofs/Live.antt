@@ -17,8 +17,8 @@ use Rattle.seq_calls.specs.Runs.{HasValues}
 use Rattle.seq_calls.proofs.Bounded.{has_text}
 use Rattle.seq_calls.proofs.Relied.{relied_run}
 use Rattle.demand_table.specs.declared.range.Range.{Range}
-use Rattle.demand_table.specs.Drawn.{IsChecked, Calls as CallsIn, ReachedAfter, IsReached, Drawing, entry_of}
-use Rattle.demand_table.specs.Table.{runs_in_library, from_zero, checks_in_store, IsTable, IsLiveIn}
+use Rattle.demand_table.specs.Drawn.{IsChecked, RunCalls as CallsIn, ReachedAfter, IsReached, Drawing, node_entry}
+use Rattle.demand_table.specs.Table.{runs_in_library, from_zero, checks_in_store, IsDemandTable, IsLiveIn}
 use Rattle.demand_table.proofs.Counts.{nil-cases, cons-cases, cons-here, cons-more}
 use Rattle.demand_table.proofs.Counted.{some_is}
 use Rattle.demand_table.proofs.Pairs.{same_parts}
@@ -64,11 +64,11 @@ module _ (s : Store) where
       (from_zero e.checked, ap (option_map (λ (e : Published). from_zero e.checked)) there, bounds.0, bounds.1)
 
   -- a store that has a table has values at its checked arguments
-  pub table_values : (D : Drawing) → IsTable s D → HasValues s
+  pub table_values : (D : Drawing) → IsDemandTable s D → HasValues s
   table_values D d q i e there lt =
       let p : Pair = pair q (pos i) in
       let node = some_is (D p) ((d.live p).1 (0, is_checked_at p e i there lt refl)) in
-      let ran = ran_of (programs_of s) p (entry_of node.0) (d.runs p node.0 node.1) in
+      let ran = ran_of (programs_of s) p (node_entry node.0) (d.runs p node.0 node.1) in
       (node.0.value, ran.used, ap (λ (z : Outcome × Calls). z.0) ran.is)
 
   -- ---- what a live run calls

@@ -11,7 +11,7 @@ use Rattle.seq_calls.specs.Frames.{steps_of, pair, nodes_of}
 use Rattle.seq_calls.specs.Demand.{ample}
 use Rattle.seq_calls.specs.Values.{outcome, KeepsValue}
 use Rattle.seq_calls.proofs.Values.{gives_value}
-use Rattle.demand_table.proofs.Programs.{next_programs}
+use Rattle.program_store.proofs.Puts.{next_programs}
 use Rattle.demand_table.specs.Replaceable.{AreRuns, IsReplaceable}
 use Rattle.demand_table.specs.declared.entry.Entry.{Entry}
 use Rattle.demand_table.specs.Table.{runs_in_library, steps_at, AreFramesOf, IsWanted, MayReplace}

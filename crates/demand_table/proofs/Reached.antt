@@ -19,7 +19,7 @@ use Rattle.text_parts.specs.Names.{IsName}
 use Rattle.loda_semantics.specs.declared.kinds.Pair.{Pair}
 use Rattle.seq_calls.specs.declared.outcomes.NodeRun.{NodeRun}
 use Rattle.demand_table.specs.declared.names.Names.{Names}
-use Rattle.demand_table.specs.Upward.{names_under}
+use Rattle.demand_table.specs.Upward.{names_filed_under}
 use Rattle.demand_table.specs.Reaching.{Index, Grows, HasCalls, HasRuns, IsMetCalls, call_cmp}
 use Rattle.demand_table.proofs.Counts.{nil-cases}
 
@@ -34,24 +34,24 @@ list_of o = option_map_or (λ (v : Names). v.list.items) o []
 
 -- ---- one name more
 
-module _ (old new : Index) (to from : ℕ) (v : Names) (put : new ≡ map.insert old to v) (grown : v.list.items ≡ names_under old to ++ from ∷ []) where
-  under_here : names_under new to ≡ names_under old to ++ from ∷ []
-  under_here = ap (λ (m : Index). names_under m to) put ∙ ap (λ (o : Option Names). option_map_or (λ (v : Names). v.list.items) o []) (get_put_same old to v) ∙ grown
+module _ (old new : Index) (to from : ℕ) (v : Names) (put : new ≡ map.insert old to v) (grown : v.list.items ≡ names_filed_under old to ++ from ∷ []) where
+  under_here : names_filed_under new to ≡ names_filed_under old to ++ from ∷ []
+  under_here = ap (λ (m : Index). names_filed_under m to) put ∙ ap (λ (o : Option Names). option_map_or (λ (v : Names). v.list.items) o []) (get_put_same old to v) ∙ grown
 
-  under_other : (q : ℕ) → (q ≡ to → ⊥) → names_under new q ≡ names_under old q
-  under_other q other = ap (λ (m : Index). names_under m q) put ∙ ap (λ (o : Option Names). option_map_or (λ (v : Names). v.list.items) o []) (get_put_other old to v q other)
+  under_other : (q : ℕ) → (q ≡ to → ⊥) → names_filed_under new q ≡ names_filed_under old q
+  under_other q other = ap (λ (m : Index). names_filed_under m q) put ∙ ap (λ (o : Option Names). option_map_or (λ (v : Names). v.list.items) o []) (get_put_other old to v q other)
 
-  pub joined_here : Contains (names_under new to) from
-  joined_here = subst (λ (l : List ℕ). Contains l from) (sym under_here) (Contains-push (names_under old to) from)
+  pub joined_here : Contains (names_filed_under new to) from
+  joined_here = subst (λ (l : List ℕ). Contains l from) (sym under_here) (Contains-push (names_filed_under old to) from)
 
   pub joined_grows : Grows old new
   joined_grows q r at = by (cases_eq q to)
     where
-      by : (q ≡ to) ⊎ (q ≡ to → ⊥) → Contains (names_under new q) r
+      by : (q ≡ to) ⊎ (q ≡ to → ⊥) → Contains (names_filed_under new q) r
       by (inl e) =
-          subst (λ (k : ℕ). Contains (names_under new k) r) (sym e)
+          subst (λ (k : ℕ). Contains (names_filed_under new k) r) (sym e)
           (subst (λ (l : List ℕ). Contains l r) (sym under_here)
-          (Contains-append_left (names_under old to) (from ∷ []) r (subst (λ (k : ℕ). Contains (names_under old k) r) e at)))
+          (Contains-append_left (names_filed_under old to) (from ∷ []) r (subst (λ (k : ℕ). Contains (names_filed_under old k) r) e at)))
       by (inr other) = subst (λ (l : List ℕ). Contains l r) (sym (under_other q other)) at
 
 pub grows_on : (a b c : Index) → Grows a b → Grows b c → Grows a c
@@ -70,20 +70,20 @@ calls_apart a b c d other = by (nat_cmp a c) refl (nat_cmp b d) refl
     by Equal e Equal f = absurd (other (sym (nat_cmp-IsAntisymmetric a c e)) (sym (nat_cmp-IsAntisymmetric b d f)))
 
 pub met_calls : (old new : BTreeSet (ℕ × ℕ)) (was now : Index) (to from : ℕ) → sorted.Updates call_cmp old new (to, from) true
-    → IsMetCalls old was → Grows was now → (IsName to → Contains (names_under now to) from) → IsMetCalls new now
+    → IsMetCalls old was → Grows was now → (IsName to → Contains (names_filed_under now to) from) → IsMetCalls new now
 met_calls old new was now to from updates h grows here t f at name = by (cases_eq t to) (cases_eq f from)
   where
-    rest : ((t ≡ to) → (f ≡ from) → ⊥) → Contains (names_under now t) f
+    rest : ((t ≡ to) → (f ≡ from) → ⊥) → Contains (names_filed_under now t) f
     rest other = grows t f (h t f (sym (updates.2 (t, f) (calls_apart to from t f other)) ∙ at) name)
 
-    by : (t ≡ to) ⊎ (t ≡ to → ⊥) → (f ≡ from) ⊎ (f ≡ from → ⊥) → Contains (names_under now t) f
+    by : (t ≡ to) ⊎ (t ≡ to → ⊥) → (f ≡ from) ⊎ (f ≡ from → ⊥) → Contains (names_filed_under now t) f
     by (inl e) (inl g) =
-        subst (λ (k : ℕ). Contains (names_under now t) k) (sym g) (subst (λ (k : ℕ). Contains (names_under now k) from) (sym e) (here (subst IsName e name)))
+        subst (λ (k : ℕ). Contains (names_filed_under now t) k) (sym g) (subst (λ (k : ℕ). Contains (names_filed_under now k) from) (sym e) (here (subst IsName e name)))
     by (inr other) g = rest (λ e g. other e)
     by (inl e) (inr other) = rest (λ e g. other g)
 
 pub was_met_call : (met : BTreeSet (ℕ × ℕ)) (index : Index) (to from : ℕ) (added : Bool) → IsMetCalls met index → added ≡ not (sorted.contains call_cmp met (to, from)) → added ≡ false
-    → IsName to → Contains (names_under index to) from
+    → IsName to → Contains (names_filed_under index to) from
 was_met_call met index to from added h is no' = h to from (by (sorted.contains call_cmp met (to, from)) (sym is ∙ no'))
   where
     by : (b : Bool) → not b ≡ false → b ≡ true
@@ -98,13 +98,13 @@ pub record IsReaching (first now : Index) (met : BTreeSet (ℕ × ℕ)) (from : 
   pub calls : HasCalls now from done
 
 pub reaching_more : (first was now : Index) (old new : BTreeSet (ℕ × ℕ)) (from : ℕ) (done : List Pair) (call : Pair) → IsReaching first was old from done
-    → sorted.Updates call_cmp old new (call.name, from) true → Grows was now → (IsName call.name → Contains (names_under now call.name) from) → IsReaching first now new from (done ++ call ∷ [])
+    → sorted.Updates call_cmp old new (call.name, from) true → Grows was now → (IsName call.name → Contains (names_filed_under now call.name) from) → IsReaching first now new from (done ++ call ∷ [])
 reaching_more first was now old new from done call h updates grows here = record {
   grows = grows_on first was now h.grows grows;
   met_calls = met_calls old new was now call.name from updates h.met_calls grows here;
   calls = λ to at name. elim (Contains-push_cases done call to at) [
     | inl at' ↦ grows to.name from (h.calls to at' name)
-    | inr e ↦ subst (λ (p : Pair). Contains (names_under now p.name) from) e (here (subst (λ (p : Pair). IsName p.name) (sym e) name))
+    | inr e ↦ subst (λ (p : Pair). Contains (names_filed_under now p.name) from) e (here (subst (λ (p : Pair). IsName p.name) (sym e) name))
   ];
 }
 

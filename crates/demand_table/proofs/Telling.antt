@@ -15,10 +15,10 @@ use Rattle.seq_calls.specs.Runs.{HasValues}
 use Rattle.seq_calls.proofs.Relied.{is_checked}
 use Rattle.demand_table.specs.declared.node.Node.{Node}
 use Rattle.demand_table.specs.Counts.{IsCount}
-use Rattle.demand_table.specs.Drawn.{Calls, IsReached, Drawing, NodeCalls, entry_of}
+use Rattle.demand_table.specs.Drawn.{RunCalls, IsReached, Drawing, NodeCalls, node_entry}
 use Rattle.demand_table.specs.Demanded.{Rises, AreCalled}
 use Rattle.demand_table.specs.Nodes.{IsLive, IsNodeAt, IsAscending, ListsDem, CallsPair}
-use Rattle.demand_table.specs.Table.{runs_in_library, steps_at, checks_in_store, IsTable, IsLiveIn}
+use Rattle.demand_table.specs.Table.{runs_in_library, steps_at, checks_in_store, IsDemandTable, IsLiveIn}
 use Rattle.demand_table.proofs.Counts.{cons-same, cons-more, count_same}
 use Rattle.demand_table.proofs.Counted.{none_is_some, is_some}
 use Rattle.demand_table.proofs.Drawings.{total_stays}
@@ -40,7 +40,7 @@ rises_at (x ∷ xs) up i zero a b lt at bt = absurd (omega arith)
 rises_at (x ∷ xs) up zero (suc j) a b lt at bt = let same : x ≡ a = cc in subst (λ (y : ℤ). y <ℤ b) same (up.0 b (at_place xs j b bt))
 rises_at (x ∷ xs) up (suc i) (suc j) a b lt at bt = rises_at xs up.1 i j a b (omega arith) at bt
 
-module _ (s : Store) (D : Drawing) (table : IsTable s D) where
+module _ (s : Store) (D : Drawing) (table : IsDemandTable s D) where
   values : HasValues s
   values = table_values s D table
 
@@ -74,7 +74,7 @@ module _ (s : Store) (D : Drawing) (table : IsTable s D) where
 
   pub tells : (p : Pair) (n : Node) → D p ≡ Some n → n.arg ≡ p.arg → IsNodeAt s p.name p.arg n
   tells p n is arg =
-      let ran = ran_of (programs_of s) p (entry_of n) (table.runs p n is) in
+      let ran = ran_of (programs_of s) p (node_entry n) (table.runs p n is) in
       let used : ran.used ≡ n.total = sym (steps_with (programs_of s) p n.value ran.used ran.calls ran.is) ∙ sym (total_is p n is) in
       record {
         live = live_of p (node_live p n is);
@@ -88,7 +88,7 @@ module _ (s : Store) (D : Drawing) (table : IsTable s D) where
   pub called_by : (p : Pair) (n : Node) → D p ≡ Some n → IsCount (CallsPair s p) n.callers
   called_by p n is =
       count_same (NodeCalls D p) (CallsPair s p) n.callers
-      (λ from h. (live_of from (node_live from h.0 h.1), (entry_of h.0, table.runs from h.0 h.1, h.2)))
+      (λ from h. (live_of from (node_live from h.0 h.1), (node_entry h.0, table.runs from h.0 h.1, h.2)))
       (λ from h. node_calls s D table from p (live_by from h.0) h.1)
       (table.callers p n is)
 
@@ -98,7 +98,7 @@ module _ (s : Store) (D : Drawing) (table : IsTable s D) where
   unfolding values
   demanded_of p from calls =
       let live = node_live from calls.0 calls.1 in
-      called_demanded s values from p (live_forth s values live.0 from live.1) (entry_of calls.0, table.runs from calls.0 calls.1, calls.2)
+      called_demanded s values from p (live_forth s values live.0 from live.1) (node_entry calls.0, table.runs from calls.0 calls.1, calls.2)
 
   caller_of : (p : Pair) → InDem s p.name p.arg → (from : Pair) × NodeCalls D p from
   unfolding values

@@ -10,7 +10,7 @@ use Rattle.demand_table.specs.declared.entry.Entry.{Entry}
 use Rattle.demand_table.specs.declared.slot.Slot.{Slot}
 use Rattle.demand_table.specs.declared.frame.Frame.{Frame}
 use Rattle.demand_table.specs.Counts.{AllDiffer, IsCount}
-use Rattle.demand_table.specs.Drawn.{Runs, Calls, AreTotals}
+use Rattle.demand_table.specs.Drawn.{Runs, RunCalls, AreTotals}
 use Rattle.demand_table.specs.Work.{Slots, runs_in, IsSet, with_total}
 use Rattle.demand_table.specs.Settling.{IsUnsettled, CanSettle, Settles, IsSettling, Falls, pairs_of, IsStacked}
 use Rattle.demand_table.proofs.Counts.{nil-cases, cons-cases, cons-here, cons-more, no_longer, count_less}
@@ -82,8 +82,8 @@ module _ (w new : Slots) (p : Pair) (t : ℕ) (set : IsSet w new p (with_total (
     rank = can.rank;
     sums = subst (λ (R : Runs). AreTotals R can.total) (sym runs) can.sums;
     fit = λ q here. can.fit q (subst (λ (o : Option Entry). IsSome o) (entries q) here);
-    closed = λ from to call. subst (λ (o : Option Entry). IsSome o) (sym (entries to)) (can.closed from to (subst (λ (R : Runs). Calls R from to) runs call));
-    falls = λ from to call. can.falls from to (subst (λ (R : Runs). Calls R from to) runs call);
+    closed = λ from to call. subst (λ (o : Option Entry). IsSome o) (sym (entries to)) (can.closed from to (subst (λ (R : Runs). RunCalls R from to) runs call));
+    falls = λ from to call. can.falls from to (subst (λ (R : Runs). RunCalls R from to) runs call);
     right = right;
   }
     where
@@ -142,7 +142,7 @@ module _ (w new : Slots) (p : Pair) (t : ℕ) (set : IsSet w new p (with_total (
 
 -- ---- a call is waited for
 
-pub waited : (w : Slots) (stack : List Frame) (f g next : Frame) (left : ℕ) → (h : IsStacked w (stack ++ f ∷ []) left) → g.pair ≡ f.pair → Calls (runs_in w) f.pair next.pair → IsUnsettled w next.pair
+pub waited : (w : Slots) (stack : List Frame) (f g next : Frame) (left : ℕ) → (h : IsStacked w (stack ++ f ∷ []) left) → g.pair ≡ f.pair → RunCalls (runs_in w) f.pair next.pair → IsUnsettled w next.pair
     → IsStacked w ((stack ++ g ∷ []) ++ next ∷ []) left
 waited w stack f g next left h same call unsettled = record {
   settling = h.settling;

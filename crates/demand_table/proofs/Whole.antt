@@ -13,14 +13,14 @@ use Rattle.demand_table.specs.declared.entry.Entry.{Entry}
 use Rattle.demand_table.specs.declared.node.Node.{Node}
 use Rattle.demand_table.specs.declared.slot.Slot.{Slot}
 use Rattle.demand_table.specs.Counts.{IsCount}
-use Rattle.demand_table.specs.Drawn.{Checks, Runs, with_range, IsChecked, Calls, ReachedAfter, IsReached, IsClosed, AreTotals, Drawing, entry_of, NodeCalls, IsDrawn}
+use Rattle.demand_table.specs.Drawn.{CheckedRanges, Runs, with_range, IsChecked, RunCalls, ReachedAfter, IsReached, IsClosed, AreTotals, Drawing, node_entry, NodeCalls, IsDrawn}
 use Rattle.std.proofs.Common.{ℤ}
 use Rattle.std.specs.Ordering.{nat_cmp, is_eq}
 use Rattle.std.specs.Map.{lookup}
 use Rattle.std.specs.BTreeMap as tree
 use Rattle.std.specs.BTreeMap.{BTreeMap}
 use Rattle.demand_table.specs.declared.work.Work.{Work}
-use Rattle.demand_table.specs.Loaded.{blank, slot_with, slot_of, slot_in, slots_of, node_at, Folders}
+use Rattle.demand_table.specs.Loaded.{blank_slot, slot_with, slot_of, slot_in, slots_of, node_at, Folders}
 use Rattle.demand_table.specs.Work.{Slots, runs_in, IsCounted, IsDropping, IsDropped, KeepsTotals}
 use Rattle.demand_table.specs.Settling.{IsUnsettled, CanSettle}
 use Rattle.demand_table.specs.Mended.{run_of, run_at, either, apart_from, mended, runs_of, Fits, node_from, drawing_of}
@@ -33,7 +33,7 @@ use Rattle.demand_table.proofs.Placing.{same_pair, same_of}
 
 -- ---- options
 
-pub map_some : (o : Option Node) (e : Entry) → option_map entry_of o ≡ Some e → (n : Node) × (o ≡ Some n) × (entry_of n ≡ e)
+pub map_some : (o : Option Node) (e : Entry) → option_map node_entry o ≡ Some e → (n : Node) × (o ≡ Some n) × (node_entry n ≡ e)
 map_some None e h = cc
 map_some (Some n) e h = (n, refl, cc)
 
@@ -57,7 +57,7 @@ no_node : (o : Option Node) → o ≡ None → IsSome o → ⊥
 no_node None h k = cc
 no_node (Some m) h k = cc
 
-slot_entry : (o : Option Node) → (slot_of o).entry ≡ option_map entry_of o
+slot_entry : (o : Option Node) → (slot_of o).entry ≡ option_map node_entry o
 slot_entry None = refl
 slot_entry (Some n) = refl
 
@@ -71,7 +71,7 @@ frame_at (r ∷ rs) p e h = by (same_pair r.pair p) refl h (frame_at rs p e)
     by true f h rest = (r, cons-here r rs, same_of r.pair p f, cc)
     by false f h rest = let k = rest h in (k.0, cons-more r rs k.0 k.1, k.2, k.3)
 
-module _ (C : Checks) (D : Drawing) (drawn : IsDrawn C (runs_of D) D) (w0 : Slots) (fresh : (p : Pair) → w0 p ≡ slot_of (D p)) where
+module _ (C : CheckedRanges) (D : Drawing) (drawn : IsDrawn C (runs_of D) D) (w0 : Slots) (fresh : (p : Pair) → w0 p ≡ slot_of (D p)) where
   first_entry : (p : Pair) → (w0 p).entry ≡ runs_of D p
   first_entry p = ap (λ (s : Slot). s.entry) (fresh p) ∙ slot_entry (D p)
 
@@ -81,13 +81,13 @@ module _ (C : Checks) (D : Drawing) (drawn : IsDrawn C (runs_of D) D) (w0 : Slot
   first_callers : (p : Pair) (o : Option Node) → D p ≡ o → (w0 p).callers ≡ (slot_of o).callers
   first_callers p o e = ap (λ (s : Slot). s.callers) (fresh p) ∙ ap (λ (o : Option Node). (slot_of o).callers) e
 
-  to_node : (from to : Pair) → Calls (runs_in w0) from to → NodeCalls D to from
+  to_node : (from to : Pair) → RunCalls (runs_in w0) from to → NodeCalls D to from
   to_node from to h =
       let n = map_some (D from) h.0 (sym (first_entry from) ∙ h.1) in
       (n.0, n.1, subst (λ (e : Entry). Contains e.calls to) (sym n.2) h.2)
 
-  from_node : (from to : Pair) → NodeCalls D to from → Calls (runs_in w0) from to
-  from_node from to h = (entry_of h.0, first_entry from ∙ ap (option_map entry_of) h.1, h.2)
+  from_node : (from to : Pair) → NodeCalls D to from → RunCalls (runs_in w0) from to
+  from_node from to h = (node_entry h.0, first_entry from ∙ ap (option_map node_entry) h.1, h.2)
 
   node_live : (p : Pair) (n : Node) → D p ≡ Some n → IsReached C (runs_of D) p
   node_live p n e = (drawn.live p).0 (has_node (D p) n e)
@@ -97,14 +97,14 @@ module _ (C : Checks) (D : Drawing) (drawn : IsDrawn C (runs_of D) D) (w0 : Slot
   counted_first p = by (node_cases (D p))
     where
       called : (from : Pair) → NodeCalls D p from → IsSome (D p)
-      called from h = (drawn.live p).1 (live_call C (runs_of D) from p (node_live from h.0 h.1) (entry_of h.0, ap (option_map entry_of) h.1, h.2))
+      called from h = (drawn.live p).1 (live_call C (runs_of D) from p (node_live from h.0 h.1) (node_entry h.0, ap (option_map node_entry) h.1, h.2))
 
-      by : (D p ≡ None) ⊎ ((n : Node) × (D p ≡ Some n)) → IsCount (λ from. Calls (runs_in w0) from p) (w0 p).callers
+      by : (D p ≡ None) ⊎ ((n : Node) × (D p ≡ Some n)) → IsCount (λ from. RunCalls (runs_in w0) from p) (w0 p).callers
       by (inr n) =
-          subst (λ (k : ℕ). IsCount (λ from. Calls (runs_in w0) from p) k) (sym (first_callers p (Some n.0) n.1))
-          (count_same (NodeCalls D p) (λ from. Calls (runs_in w0) from p) n.0.callers (λ from h. from_node from p h) (λ from h. to_node from p h) (drawn.callers p n.0 n.1))
+          subst (λ (k : ℕ). IsCount (λ from. RunCalls (runs_in w0) from p) k) (sym (first_callers p (Some n.0) n.1))
+          (count_same (NodeCalls D p) (λ from. RunCalls (runs_in w0) from p) n.0.callers (λ from h. from_node from p h) (λ from h. to_node from p h) (drawn.callers p n.0 n.1))
       by (inl none) =
-          subst (λ (k : ℕ). IsCount (λ from. Calls (runs_in w0) from p) k) (sym (first_callers p None none)) (record {
+          subst (λ (k : ℕ). IsCount (λ from. RunCalls (runs_in w0) from p) k) (sym (first_callers p None none)) (record {
             things = [];
             differ = tt;
             exact = λ from. (λ h. absurd (no_node (D p) none (called from (to_node from p h))), λ at. absurd (nil-cases from at));
@@ -118,8 +118,8 @@ module _ (C : Checks) (D : Drawing) (drawn : IsDrawn C (runs_of D) D) (w0 : Slot
       by : (k : ℕ) → ReachedAfter C (runs_of D) k p → IsChecked C p
       by zero h = h
       by (suc k) h =
-          let call : Calls (runs_in w0) h.0 p = (h.2.0, first_entry h.0 ∙ h.2.1, h.2.2) in
-          absurd (none_of_zero (λ from. Calls (runs_in w0) from p) (subst (λ (m : ℕ). IsCount (λ from. Calls (runs_in w0) from p) m) none (counted_first p)) h.0 call)
+          let call : RunCalls (runs_in w0) h.0 p = (h.2.0, first_entry h.0 ∙ h.2.1, h.2.2) in
+          absurd (none_of_zero (λ from. RunCalls (runs_in w0) from p) (subst (λ (m : ℕ). IsCount (λ from. RunCalls (runs_in w0) from p) m) none (counted_first p)) h.0 call)
 
   module _ (q : ℕ) (range : Range) (runs : List NodeRun) (fits : Fits C (runs_of D) q range runs)
       (w1 w2 : Slots) (pending1 pending2 : List Pair) (left stand : ℕ)
@@ -191,7 +191,7 @@ module _ (C : Checks) (D : Drawing) (drawn : IsDrawn C (runs_of D) D) (w0 : Slot
             off : p.name ≡ q → ⊥
             off same = let f = cleared.gone p same in let g = is in cc
 
-            n : (n : Node) × (D p ≡ Some n) × (entry_of n ≡ e)
+            n : (n : Node) × (D p ≡ Some n) × (node_entry n ≡ e)
             n = map_some (D p) e (sym (off_name p off) ∙ sym (kept_entry p) ∙ is)
 
         by : ((w1 p).entry ≡ None) ⊎ ((e : Entry) × ((w1 p).entry ≡ Some e)) → (run_at runs p ≡ None) ⊎ ((e : Entry) × (run_at runs p ≡ Some e))
@@ -231,9 +231,9 @@ module _ (C : Checks) (D : Drawing) (drawn : IsDrawn C (runs_of D) D) (w0 : Slot
       stands : (p : Pair) → IsReached (with_range C q range) (mended (runs_of D) q runs) p → IsSome (w4 p).entry
       stands p l = subst (λ (o : Option Entry). IsSome o) (sym (forgotten.entry p)) (dropped.kept p (subst (λ (R : Runs). IsReached (with_range C q range) R p) (sym mended_all) l))
 
-      same : (p : Pair) (n : Node) → (Contains names p.name → ⊥) → D p ≡ Some n → mended (runs_of D) q runs p ≡ Some (entry_of n)
+      same : (p : Pair) (n : Node) → (Contains names p.name → ⊥) → D p ≡ Some n → mended (runs_of D) q runs p ≡ Some (node_entry n)
       same p n off is =
-          sym (mended_is p) ∙ mending.entry p ∙ ap (λ (o : Option Entry). either o (run_at runs p)) (kept_entry p ∙ off_name p (λ e. off (subst (Contains names) (sym e) has)) ∙ ap (option_map entry_of) is)
+          sym (mended_is p) ∙ mending.entry p ∙ ap (λ (o : Option Entry). either o (run_at runs p)) (kept_entry p ∙ off_name p (λ e. off (subst (Contains names) (sym e) has)) ∙ ap (option_map node_entry) is)
 
       -- and totals can be settled
       pub settling_starts : CanSettle w4
@@ -264,7 +264,7 @@ module _ (C : Checks) (D : Drawing) (drawn : IsDrawn C (runs_of D) D) (w0 : Slot
                   apart : p.name ≡ q → ⊥
                   apart g = let k = at_name p g in let l = f in cc
 
-                  n : (n : Node) × (D p ≡ Some n) × (entry_of n ≡ e)
+                  n : (n : Node) × (D p ≡ Some n) × (node_entry n ≡ e)
                   n = map_some (D p) e (sym (off_name p apart) ∙ f)
 
                   off : Contains names p.name → ⊥
@@ -312,7 +312,7 @@ many_first D w many fresh count =
     from None h = cc
     from (Some n) h = refl
 
-pub settled_dropped : (C : Checks) (w2 w3 : Slots) (many : ℕ) → IsDropped C (runs_in w2) w3 many → KeepsTotals w2 w3 → ((p : Pair) → IsUnsettled w2 p → ⊥) → (p : Pair) → IsUnsettled w3 p → ⊥
+pub settled_dropped : (C : CheckedRanges) (w2 w3 : Slots) (many : ℕ) → IsDropped C (runs_in w2) w3 many → KeepsTotals w2 w3 → ((p : Pair) → IsUnsettled w2 p → ⊥) → (p : Pair) → IsUnsettled w3 p → ⊥
 settled_dropped C w2 w3 many dropped totals settled p h =
     let e = some_is (w3 p).entry h.stands in
     settled p (record { stands = is_some (w2 p).entry e.0 (dropped.within p e.0 e.1); unknown = sym (totals p h.stands) ∙ h.unknown })
@@ -328,18 +328,18 @@ forgotten_from w3 w4 D names runs pairs listed many h frames named = record {
 }
 
 -- the same runs and callers are dropped likewise
-pub dropped_same : (C : Checks) (R : Runs) (old new : Slots) (many : ℕ) → ((q : Pair) → (new q).entry ≡ (old q).entry) → ((q : Pair) → (new q).callers ≡ (old q).callers) → IsDropped C R old many → IsDropped C R new many
+pub dropped_same : (C : CheckedRanges) (R : Runs) (old new : Slots) (many : ℕ) → ((q : Pair) → (new q).entry ≡ (old q).entry) → ((q : Pair) → (new q).callers ≡ (old q).callers) → IsDropped C R old many → IsDropped C R new many
 dropped_same C R old new many entry callers h =
     let runs : runs_in new ≡ runs_in old = λ i q. entry q i in
     record {
       within = λ p e is. h.within p e (sym (entry p) ∙ is);
       kept = λ p live. subst (λ (o : Option Entry). IsSome o) (sym (entry p)) (h.kept p live);
       live = λ p here. h.live p (subst (λ (o : Option Entry). IsSome o) (entry p) here);
-      counted = λ q. subst (λ (S : Runs). IsCount (λ from. Calls S from q) (new q).callers) (sym runs) (subst (λ (n : ℕ). IsCount (λ from. Calls (runs_in old) from q) n) (sym (callers q)) (h.counted q));
+      counted = λ q. subst (λ (S : Runs). IsCount (λ from. RunCalls S from q) (new q).callers) (sym runs) (subst (λ (n : ℕ). IsCount (λ from. RunCalls (runs_in old) from q) n) (sym (callers q)) (h.counted q));
       many = subst (λ (S : Runs). IsCount (λ p. IsSome (S p)) many) (sym runs) h.many;
     }
 
-pub many_last : (C : Checks) (R : Runs) (w : Slots) (many : ℕ) → IsDropped C R w many → IsCount (λ p. IsSome (drawing_of w p)) many
+pub many_last : (C : CheckedRanges) (R : Runs) (w : Slots) (many : ℕ) → IsDropped C R w many → IsCount (λ p. IsSome (drawing_of w p)) many
 many_last C R w many h =
     count_same (λ p. IsSome (w p).entry) (λ p. IsSome (drawing_of w p)) many (λ p some. to p (w p) (w p).entry some) (λ p some. from p (w p) (w p).entry some) h.many
   where

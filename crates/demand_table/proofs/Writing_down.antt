@@ -19,7 +19,7 @@ use Rattle.std.proofs.lemmas.Bool.Decides.{Decides-int_eq}
 use Rattle.demand_table.specs.declared.entry.Entry.{Entry}
 use Rattle.demand_table.specs.declared.node.Node.{Node}
 use Rattle.demand_table.specs.declared.slot.Slot.{Slot}
-use Rattle.demand_table.specs.Loaded.{slot_at, node_in, the_pair, blank}
+use Rattle.demand_table.specs.Loaded.{slot_at, node_in, the_pair, blank_slot}
 use Rattle.demand_table.specs.Mended.{node_with, node_from}
 use Rattle.demand_table.specs.Written.{node_here, nodes_from}
 use Rattle.demand_table.proofs.Pairs.{int_cases}
@@ -79,5 +79,5 @@ pub written_at : (slots : BTreeMap ℤ Slot) (nodes : List Node) → nodes ≡ n
 written_at slots nodes is ordered x = ap (λ (l : List Node). node_in l x) is ∙ at_key slots.entries x ordered ∙ by (tree.get int_cmp slots x) refl
   where
     by : (o : Option Slot) → tree.get int_cmp slots x ≡ o → in_slot (tree.get int_cmp slots x) x ≡ node_from (the_pair 0 x) (slot_at slots x) (slot_at slots x).entry
-    by None e = ap (λ (o : Option Slot). in_slot o x) e ∙ sym (ap (λ (o : Option Slot). node_from (the_pair 0 x) (unwrap_or o blank) (unwrap_or o blank).entry) e)
-    by (Some s) e = ap (λ (o : Option Slot). in_slot o x) e ∙ sym (ap (λ (o : Option Slot). node_from (the_pair 0 x) (unwrap_or o blank) (unwrap_or o blank).entry) e)
+    by None e = ap (λ (o : Option Slot). in_slot o x) e ∙ sym (ap (λ (o : Option Slot). node_from (the_pair 0 x) (unwrap_or o blank_slot) (unwrap_or o blank_slot).entry) e)
+    by (Some s) e = ap (λ (o : Option Slot). in_slot o x) e ∙ sym (ap (λ (o : Option Slot). node_from (the_pair 0 x) (unwrap_or o blank_slot) (unwrap_or o blank_slot).entry) e)

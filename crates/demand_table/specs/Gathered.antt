@@ -9,12 +9,12 @@ use Rattle.demand_table.specs.declared.entry.Entry.{Entry}
 use Rattle.demand_table.specs.declared.gathering.Gathered.{Gathered}
 use Rattle.demand_table.specs.Ascending.{AllAscend}
 use Rattle.demand_table.specs.Counts.{IsCount}
-use Rattle.demand_table.specs.Drawn.{Calls, IsReached}
+use Rattle.demand_table.specs.Drawn.{RunCalls, IsReached}
 use Rattle.demand_table.specs.Loaded.{Folders, slots_of, node_at, checks_of}
 use Rattle.demand_table.specs.Reaching.{Index}
 use Rattle.demand_table.specs.Settling.{IsUnsettled}
 use Rattle.demand_table.specs.Table.{runs_in_library, checks_in_store}
-use Rattle.demand_table.specs.Upward.{names_under}
+use Rattle.demand_table.specs.Upward.{names_filed_under}
 use Rattle.demand_table.specs.Work.{Slots, runs_in, IsCounted}
 
 -- The folders have the checked arguments of the store, and no nodes yet.
@@ -28,8 +28,8 @@ pub record IsUndrawn (s : Store) (folders : Folders) : Type 0 where
 pub record AreLiveRuns (s : Store) (w : Slots) (callers : Index) (Listed : Pair → Type 0) (stand : ℕ) : Type 0 where
   pub within : (p : Pair) (e : Entry) → (w p).entry ≡ Some e → runs_in_library (programs_of s) p ≡ Some e
   pub live : (p : Pair) → IsSome (w p).entry → IsReached (checks_in_store s) (runs_in_library (programs_of s)) p
-  pub closed : (from to : Pair) → Calls (runs_in w) from to → IsSome (w to).entry
-  pub covers : (from to : Pair) → Calls (runs_in w) from to → IsName to.name → Contains (names_under callers to.name) from.name
+  pub closed : (from to : Pair) → RunCalls (runs_in w) from to → IsSome (w to).entry
+  pub covers : (from to : Pair) → RunCalls (runs_in w) from to → IsName to.name → Contains (names_filed_under callers to.name) from.name
   pub counted : IsCounted w
   pub many : IsCount (λ p. IsSome (w p).entry) stand
   pub listed : (p : Pair) → IsSome (w p).entry → Listed p

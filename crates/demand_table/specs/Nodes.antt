@@ -7,7 +7,7 @@ use Rattle.program_store.specs.Store.{Store, IsPublished, programs_of, checked_a
 use Rattle.seq_calls.specs.Demand.{ample, InDem, IsReliedOn}
 use Rattle.seq_calls.specs.Values.{outcome}
 use Rattle.demand_table.specs.declared.node.Node.{Node}
-use Rattle.demand_table.specs.Drawn.{Calls}
+use Rattle.demand_table.specs.Drawn.{RunCalls}
 use Rattle.demand_table.specs.Table.{runs_in_library}
 
 -- the pair is in the table
@@ -22,8 +22,9 @@ pub record IsNodeAt (s : Store) (q : ℕ) (x : ℤ) (n : Node) : Type 0 where
 
 -- the live run of the one pair calls the other
 abbrev pub CallsPair : Store → Pair → Pair → Type 0
-CallsPair s to from = IsLive s from.name from.arg × Calls (runs_in_library (programs_of s)) from to
+CallsPair s to from = IsLive s from.name from.arg × RunCalls (runs_in_library (programs_of s)) from to
 
+-- each integer is less than those behind it
 abbrev pub IsAscending : List ℤ → Type 0
 IsAscending xs = (i j : ℕ) (a b : ℤ) → i < j → slice_get xs i ≡ Some a → slice_get xs j ≡ Some b → a <ℤ b
 

@@ -15,7 +15,7 @@ use Rattle.seq_calls.specs.Frames.{steps_of, steps_below, direct, nodes_of}
 use Rattle.seq_calls.specs.Demand.{ample, InDem}
 use Rattle.demand_table.specs.declared.range.Range.{Range}
 use Rattle.demand_table.specs.declared.entry.Entry.{Entry}
-use Rattle.demand_table.specs.Drawn.{Checks, Runs, Calls, IsReached, AreTotals, Drawing, IsDrawn, with_range}
+use Rattle.demand_table.specs.Drawn.{CheckedRanges, Runs, RunCalls, IsReached, AreTotals, Drawing, IsDrawn, with_range}
 use Rattle.demand_table.specs.Mended.{run_of, runs_of, mended, Fits}
 
 -- ---- the table of a store
@@ -30,18 +30,21 @@ entry_from (out used) c = None
 abbrev pub runs_in_library : Library → Runs
 runs_in_library lib p = entry_from (run_name lib p.name p.arg ample).0 (run_name lib p.name p.arg ample).1
 
+-- the steps of the run of a pair, with ample steps
 abbrev pub steps_at : Library → Pair → ℕ
 steps_at lib p = steps_of (run_name lib p.name p.arg ample).0
 
+-- the first so many arguments
 abbrev pub from_zero : ℕ → Range
 from_zero checked = record { first = pos 0; checked = checked }
 
-abbrev pub checks_in_store : Store → Checks
+-- the checked arguments of each published name
+abbrev pub checks_in_store : Store → CheckedRanges
 checks_in_store s name = option_map (λ (e : Published). from_zero e.checked) (published_at s name)
 
 -- the table of a store without cycles whose checked runs have values
-abbrev pub IsTable : Store → Drawing → Type 0
-IsTable s D = IsDrawn (checks_in_store s) (runs_in_library (programs_of s)) D
+abbrev pub IsDemandTable : Store → Drawing → Type 0
+IsDemandTable s D = IsDrawn (checks_in_store s) (runs_in_library (programs_of s)) D
 
 -- a pair is live where its name is published and its argument is checked or demanded
 abbrev pub IsLiveIn : Store → Pair → Type 0

@@ -5,7 +5,7 @@ use Rattle.loda_semantics.specs.declared.kinds.Pair.{Pair}
 use Rattle.demand_table.specs.declared.entry.Entry.{Entry}
 use Rattle.demand_table.specs.declared.slot.Slot.{Slot}
 use Rattle.demand_table.specs.Counts.{IsCount}
-use Rattle.demand_table.specs.Drawn.{Checks, Runs, IsChecked, Calls, IsReached}
+use Rattle.demand_table.specs.Drawn.{CheckedRanges, Runs, IsChecked, RunCalls, IsReached}
 
 -- a slot for each pair
 abbrev pub Slots : Type 0
@@ -55,10 +55,10 @@ with_callers s n = record { callers = n; entry = s.entry; total = s.total }
 
 -- each slot has the number of the runs that call its pair
 abbrev pub IsCounted : Slots → Type 0
-IsCounted w = (p : Pair) → IsCount (λ from. Calls (runs_in w) from p) (w p).callers
+IsCounted w = (p : Pair) → IsCount (λ from. RunCalls (runs_in w) from p) (w p).callers
 
 -- the run of a pair is taken out, and what it called has one caller fewer
-pub record IsTaken (old new : Slots) (p : Pair) (e : Entry) : Type 0 where
+pub record IsTakenOut (old new : Slots) (p : Pair) (e : Entry) : Type 0 where
   pub was : (old p).entry ≡ Some e
   pub gone : (new p).entry ≡ None
   pub others : (q : Pair) → (q ≡ p → ⊥) → (new q).entry ≡ (old q).entry
@@ -79,7 +79,7 @@ KeepsTotals old new = (p : Pair) → IsSome (new p).entry → (new p).total ≡ 
 
 -- While dead runs are dropped: those that stand are some of R, the live ones among them, and what nobody calls and no check needs
 -- is still to be looked at.
-pub record IsDropping (C : Checks) (R : Runs) (w : Slots) (pending : List Pair) (left : ℕ) : Type 0 where
+pub record IsDropping (C : CheckedRanges) (R : Runs) (w : Slots) (pending : List Pair) (left : ℕ) : Type 0 where
   pub within : (p : Pair) (e : Entry) → (w p).entry ≡ Some e → R p ≡ Some e
   pub kept : (p : Pair) → IsReached C R p → IsSome (w p).entry
   pub counted : IsCounted w
@@ -87,7 +87,7 @@ pub record IsDropping (C : Checks) (R : Runs) (w : Slots) (pending : List Pair) 
   pub many : IsCount (λ p. IsSome (w p).entry) left
 
 -- Dead runs are dropped: those that stand are the live ones.
-pub record IsDropped (C : Checks) (R : Runs) (w : Slots) (left : ℕ) : Type 0 where
+pub record IsDropped (C : CheckedRanges) (R : Runs) (w : Slots) (left : ℕ) : Type 0 where
   pub within : (p : Pair) (e : Entry) → (w p).entry ≡ Some e → R p ≡ Some e
   pub kept : (p : Pair) → IsReached C R p → IsSome (w p).entry
   pub live : (p : Pair) → IsSome (w p).entry → IsReached C R p

@@ -1,6 +1,6 @@
 //! The runs of a store's checked arguments, and all that they call, in slots.
 
-ghost use Rattle.std.specs.Prelude.{◌≡◌, ◌<◌, ◌≤◌, ℕ, IfOk, pos};
+ghost use Rattle.std.specs.Prelude.{◌<◌, ◌≤◌, ℕ, IfOk, pos};
 ghost use Rattle.program_store.specs.Store.{checked_at};
 ghost use Rattle.seq_calls.specs.Frames.{pair};
 ghost use Rattle.demand_table.specs.Gathered.{IsUndrawn, IsGathered, HasRunAt, KeepsRuns, HasFirstRuns, HasRunsUpTo};
@@ -11,7 +11,7 @@ use crate::mending::put_all;
 use crate::names::Names;
 use crate::reaching::with_runs;
 use crate::work::Work;
-use checked_numbers::Num;
+use checked_numbers::number_of;
 use loda_semantics::Pair;
 use program_store::{Store, View};
 use seq_calls::evaluate_alone;
@@ -78,16 +78,6 @@ fn with_run(
         pairs,
         stand,
     })
-}
-
-/// The number of an index.
-pub fn number_of(index: u32) -> Num
-    ensures { result ≡ pos index }
-{
-    match Num::new(i128::from(index)) {
-        Some(number) => number,
-        None => unreachable!(),
-    }
 }
 
 // With the runs of all checked arguments of a name.

@@ -4,10 +4,9 @@ ghost use Rattle.std.specs.Prelude.{◌≡◌, ◌↔◌, IsTrue, IsFalse, IfOk,
 ghost use Rattle.demand_table.specs.Leading.{calls_at, LeadsTo, AreBarren, HasJust, AddsPairs, IsFirstLeading};
 ghost use Rattle.demand_table.specs.Loaded.{node_at};
 
-use crate::gathering::number_of;
 use crate::holding::Known;
 use crate::known;
-use checked_numbers::Num;
+use checked_numbers::{Num, number_of};
 use loda_semantics::Pair;
 use std::alloc::AllocError;
 use std::collections::BTreeSet;

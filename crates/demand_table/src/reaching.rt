@@ -2,7 +2,7 @@
 
 ghost use Rattle.std.specs.Prelude.{◌≡◌, ℕ, IfOk, OnOk, Contains};
 ghost use Rattle.text_parts.specs.Names.{IsName};
-ghost use Rattle.demand_table.specs.Upward.{names_under};
+ghost use Rattle.demand_table.specs.Upward.{names_filed_under};
 ghost use Rattle.demand_table.specs.Reaching.{Grows, HasCalls, HasRuns, IsMetCalls};
 
 use crate::names::Names;
@@ -20,7 +20,7 @@ fn add_caller(
     from: u32,
 ) -> Result<(), AllocError>
     ensures grows { OnOk result (Grows callers.old callers.new) }
-    ensures here { OnOk result (IsName to → Contains (names_under callers.new to) from) }
+    ensures here { OnOk result (IsName to → Contains (names_filed_under callers.new to) from) }
 {
     if to < 1 || to > 999_999 {
         return Ok(());

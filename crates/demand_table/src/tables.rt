@@ -7,11 +7,11 @@ ghost use Rattle.program_store.specs.Graph.{NoCycle};
 ghost use Rattle.seq_calls.specs.Demand.{InDem, LeastCaller};
 ghost use Rattle.seq_calls.specs.Frames.{pair};
 ghost use Rattle.demand_table.specs.Counts.{IsCount};
-ghost use Rattle.demand_table.specs.Drawn.{entry_of};
+ghost use Rattle.demand_table.specs.Drawn.{node_entry};
 ghost use Rattle.demand_table.specs.Loaded.{node_at, checks_of};
 ghost use Rattle.demand_table.specs.Nodes.{IsLive, IsNodeAt, ListsDem, CallsPair, HasCheckedValues};
 ghost use Rattle.demand_table.specs.Replaceable.{AreRuns, IsReplaceable};
-ghost use Rattle.demand_table.specs.Table.{runs_in_library, checks_in_store, IsTable};
+ghost use Rattle.demand_table.specs.Table.{runs_in_library, checks_in_store, IsDemandTable};
 
 use crate::building::{copy_store, drawn};
 use crate::caller::{Caller, least_caller};
@@ -78,7 +78,7 @@ impl Tables {
     /// The demand table: that of the store's checked runs.
     pub fn demand(&self) -> &Demand
         ensures checks { (name : ℕ) → checks_of result.now name ≡ checks_in_store self.now name }
-        ensures table { IsTable self.now (node_at result.now) }
+        ensures table { IsDemandTable self.now (node_at result.now) }
     {
         &self.demand
     }
@@ -94,7 +94,7 @@ impl Tables {
     /// to, and the number of live runs that call it.
     pub fn node(&self, name: u32, arg: &Num) -> Option<&Node>
         ensures some { IfSome result (λ n. IsNodeAt self.now name arg.now n.now) }
-        ensures run { IfSome result (λ n. runs_in_library (programs_of self.now) (pair name arg.now) ≡ Some (entry_of n.now)) }
+        ensures run { IfSome result (λ n. runs_in_library (programs_of self.now) (pair name arg.now) ≡ Some (node_entry n.now)) }
         ensures callers { IfSome result (λ n. IsCount (CallsPair self.now (pair name arg.now)) n.now.callers) }
         ensures none { IfNone result (IsLive self.now name arg.now → ⊥) }
     {

@@ -3,7 +3,7 @@
 ghost use Rattle.std.specs.Prelude.{◌≡◌, ℕ, true, OnOk, IfOk, Contains};
 ghost use Rattle.std.specs.Ordering.{nat_cmp};
 ghost use Rattle.std.specs.BTreeSet as sorted;
-ghost use Rattle.demand_table.specs.Upward.{names_under, AddsNames, IsMetOnly};
+ghost use Rattle.demand_table.specs.Upward.{names_filed_under, AddsNames, IsMetOnly};
 
 use crate::names::Names;
 use std::alloc::{AllocError, Global};
@@ -26,7 +26,7 @@ fn add_new(found: &[u32], names: &mut Vec<u32>, met: &mut BTreeSet<u32>) -> Resu
 
 /// The names under a name.
 pub fn under(callers: &Pages<Names>, name: u32) -> &[u32]
-    ensures { result.now ≡ names_under callers.now name }
+    ensures { result.now ≡ names_filed_under callers.now name }
 {
     let _first = callers.get(1);
     if name < 1 || name > 999_999 {
@@ -41,7 +41,7 @@ pub fn under(callers: &Pages<Names>, name: u32) -> &[u32]
 /// The name, and all names from which it may be reached upward, each before those that are found by it.
 pub fn callers_of(alloc: Global, callers: &Pages<Names>, name: u32) -> Result<Vec<u32>, AllocError>
     ensures has { IfOk result (λ names. Contains names.items name) }
-    ensures closed { IfOk result (λ names. (to from : ℕ) → Contains names.items to → Contains (names_under callers.now to) from → Contains names.items from) }
+    ensures closed { IfOk result (λ names. (to from : ℕ) → Contains names.items to → Contains (names_filed_under callers.now to) from → Contains names.items from) }
 {
     let mut met = BTreeSet::new(alloc);
     let mut names = Vec::new(alloc);

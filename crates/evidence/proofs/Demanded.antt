@@ -21,7 +21,9 @@ use Rattle.demand_table.specs.Nodes.{ListsDem}
 use Rattle.evidence.specs.declared.comparing.Dearer.{Dearer}
 use Rattle.evidence.specs.Runs.{AreRunsAt, IsFirst, IsOf}
 use Rattle.evidence.specs.Trials.{IsDearerAt, IsLeastOrNone, IsKnownOr, KeepsAt}
-use Rattle.evidence.proofs.Outcomes.{told_value, not_got, got_is, steps_value}
+use Rattle.judge.proofs.Misses.{got_same}
+use Rattle.seq_calls.proofs.Values.{told_value}
+use Rattle.evidence.proofs.Outcomes.{not_got, steps_value}
 use Rattle.evidence.proofs.RunsAt.{one_more_at, same_at}
 use Rattle.evidence.proofs.Least.{of_more, of_less, of_all, of_contained, of_none, above_all, keeps_none, keeps_same, keeps_more, least_none, least_same, least_here, least_passed, least_kept, breaks_here}
 
@@ -47,7 +49,7 @@ module _ (s : Store) (limit q : ℕ) (p : Text) (xs : List ℤ) where
     broken_at g is not kept =
         let new = outcome (after s q p) q x limit in
         let h = breaks_here s limit q p xs i x v n dem at was (not_got new v (λ e. not (ap got_told ran ∙ e))) kept in
-        (h.0, h.1, is ∙ ap got_told ran ∙ got_is new)
+        (h.0, h.1, is ∙ ap got_told ran ∙ got_same new)
 
     module _ (used : ℕ) (same : o ≡ told_as.Value v used) where
       now_is : outcome (after s q p) q x limit ≡ value v used

@@ -8,24 +8,15 @@ use Rattle.seq_calls.specs.declared.outcomes.Outcome.TheVariants as told_as
 use Rattle.seq_calls.specs.Frames.{told, steps_of}
 use Rattle.judge.specs.declared.answer.Got.{Got}
 use Rattle.judge.specs.declared.answer.Got.TheVariants as got
-use Rattle.judge.specs.Passed.{agree, got_of}
+use Rattle.judge.specs.Passed.{agree}
 use Rattle.judge.specs.Misses.{got_told}
-use Rattle.judge.proofs.Misses.{got_same, false_unless}
-
--- what is told as a value is that value
-pub told_value : (o : Outcome) (v : ℤ) (n : ℕ) → told o ≡ told_as.Value v n → o ≡ value v n
-told_value (value w m) v n e = let h : told_as.Value w m ≡ told_as.Value v n = e in let f : w ≡ v = cc in let g : m ≡ n = cc in ap (λ (z : ℤ). value z m) f ∙ ap (λ (k : ℕ). value v k) g
-told_value (fault k m) v n e = absurd (let h : told_as.Fault k m ≡ told_as.Value v n = e in cc)
-told_value (out m) v n e = absurd (let h : told_as.OutOfSteps ≡ told_as.Value v n = e in cc)
+use Rattle.judge.proofs.Misses.{false_unless}
 
 -- what isn't got as a number doesn't give it
 pub not_got : (o : Outcome) (v : ℤ) → (got_told (told o) ≡ got.Value v → ⊥) → IsFalse (gives o v)
 not_got (value w n) v h = false_unless (same_int w v) (λ s. h (ap (λ (z : ℤ). got.Value z) (same_int-is w v s)))
 not_got (fault k n) v h = refl
 not_got (out n) v h = refl
-
-pub got_is : (o : Outcome) → got_told (told o) ≡ got_of o
-got_is o = got_same o
 
 -- the old outcome is this value, which the new one doesn't give
 pub disagree : (a b : Outcome) (v : ℤ) (n : ℕ) → a ≡ value v n → IsFalse (gives b v) → IsFalse (agree a b)

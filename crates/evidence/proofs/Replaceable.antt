@@ -16,7 +16,7 @@ use Rattle.seq_calls.specs.Demand.{ample, InDem}
 use Rattle.judge.specs.declared.answer.Answer.TheVariants.{Accepted}
 use Rattle.judge.specs.Passed.{Terms, agree}
 use Rattle.judge.specs.Sound.{Sound}
-use Rattle.judge.specs.Judged.{Checks, IsJudged}
+use Rattle.judge.specs.Judged.{IsNewChecked, IsJudged}
 use Rattle.judge.proofs.Values.{true_unless, agree_gives, term_at, place_within}
 use Rattle.judge.proofs.NewCycles.{no_new_cycle}
 use Rattle.judge.proofs.Demanded.{demanded_runs}
@@ -72,7 +72,7 @@ replaceable s terms limit q p checked fits sound judged = record { acyclic = acy
         judged.1.unbroken.passes.enters.acyclic sound.acyclic
 
     -- there is a term below the count, and it is given
-    given : Checks (after s q p) judged.0 q limit (checked_at s q) checked → (i : ℕ) → i < checked → (t : ℤ) × Gives (outcome (after s q p) q (pos i) limit) t
+    given : IsNewChecked (after s q p) judged.0 q limit (checked_at s q) checked → (i : ℕ) → i < checked → (t : ℤ) × Gives (outcome (after s q p) q (pos i) limit) t
     given (inl all) i lt = let n = all.1 in let term = term_at judged.0 i (omega (arith, lt, n)) in (term.0, all.0 i term.0 lt term.1)
     given (inr cut) i lt =
         let n = place_within judged.0 checked cut.0.0 cut.0.1 in

@@ -20,7 +20,7 @@ use Rattle.judge.specs.Passed.{Terms, got_of, PassesBelow}
 use Rattle.judge.specs.Misses.{IsFirstMiss}
 use Rattle.judge.specs.Sound.{Sound}
 use Rattle.judge.specs.Changes.{IsSoundStore}
-use Rattle.judge.specs.Judged.{LeastWith, Checks, Breaks, Gainless, Enters, Passes, IsJudged}
+use Rattle.judge.specs.Judged.{LeastWith, IsNewChecked, Breaks, Gainless, Enters, Passes, IsJudged}
 use Rattle.judge.proofs.Values.{place_within, term_at}
 use Rattle.judge.proofs.Keep.{grows}
 use Rattle.judge.proofs.Fresh.{judged_new}
@@ -33,7 +33,7 @@ use Rattle.evidence.specs.Runs.{AreRunsAt, AreFirst, IsFirst}
 use Rattle.evidence.specs.Trials.{IsDearerAt, IsLeastDearer, IsLeastOrNone, IsLesserOf, IsCompared, KeepsAt, SameStepsBelow, GivesTerm, AreSpent, AreSpentOnTerms, AreSpentOnDemanded, IsTried, IsWeighed, IsWeighedFor}
 use Rattle.evidence.proofs.Weights.{refusal, acceptance, given_values, counted, wrong_term, judged_costlier, judged_no_gain, judged_gain, judged_broken, least_relied, runs_are, runs_new}
 
-pub passed_values : (s : Store) (limit q : ℕ) (p : Text) (row : List ℤ) (old k : ℕ) → Checks (after s q p) row q limit old k → (x : ℤ) → IsFirst k x → (v : ℤ) × (used : ℕ) × (outcome (after s q p) q x limit ≡ value v used)
+pub passed_values : (s : Store) (limit q : ℕ) (p : Text) (row : List ℤ) (old k : ℕ) → IsNewChecked (after s q p) row q limit old k → (x : ℤ) → IsFirst k x → (v : ℤ) × (used : ℕ) × (outcome (after s q p) q x limit ≡ value v used)
 passed_values s limit q p row old k (inl all) = given_values s limit q p row k (let e = all.1 in omega (arith, e)) all.0
 passed_values s limit q p row old k (inr cut) = given_values s limit q p row k (let l = place_within row k cut.0.0 cut.0.1 in omega (arith, l)) cut.0.3
 

@@ -18,7 +18,7 @@ use Rattle.judge.proofs.Misses.{term_read, passes_next, misses_here}
 use Rattle.std.specs.declared.option.Option.TheVariants as option
 use Rattle.evidence.specs.Runs.{AreRunsAt, AreCosts, AreFirst, IsFirst}
 use Rattle.evidence.specs.Trials.{AreSpentOnTerms}
-use Rattle.evidence.proofs.Outcomes.{told_value}
+use Rattle.seq_calls.proofs.Values.{told_value}
 use Rattle.evidence.proofs.RunsAt.{one_more_at, same_at}
 use Rattle.evidence.proofs.Least.{first_more, first_less}
 

@@ -25,7 +25,7 @@ use Rattle.judge.specs.declared.answer.Answer.TheVariants.{Accepted, Unlisted, C
 use Rattle.judge.specs.Passed.{Terms, got_of, PassesBelow, FailsFirst}
 use Rattle.judge.specs.Misses.{IsFirstMiss}
 use Rattle.judge.specs.Sound.{Sound}
-use Rattle.judge.specs.Judged.{LeastWith, Checks, Breaks, CostsMore, Gainless, Enters, Passes, Unbroken, NoDearer, IsJudged}
+use Rattle.judge.specs.Judged.{LeastWith, IsNewChecked, Breaks, CostsMore, Gainless, Enters, Passes, Unbroken, NoDearer, IsJudged}
 use Rattle.judge.proofs.Values.{term_at, place_within}
 use Rattle.judge.proofs.Fresh.{judged_new, unpublished}
 use Rattle.demand_table.specs.Replaceable.{AreRuns, IsRunAt}
@@ -67,7 +67,7 @@ miss_within s limit q p row k (Some g) h = ((let l = place_within row k h.0.0 h.
 
 -- the count stands where nothing is wrong
 pub counted : (s : Store) (limit q : ℕ) (p : Text) (row : List ℤ) (k old : ℕ) (miss : Option Got) → old ≡ checked_at s q → IsFirstMiss (after s q p) row q limit k miss
-    → ((g : Got) → miss ≡ Some g → (g ≡ got.OutOfSteps) × (max 8 old ≤ k)) → Checks (after s q p) row q limit (checked_at s q) k
+    → ((g : Got) → miss ≡ Some g → (g ≡ got.OutOfSteps) × (max 8 old ≤ k)) → IsNewChecked (after s q p) row q limit (checked_at s q) k
 counted s limit q p row k old None is h right = inl h
 counted s limit q p row k old (Some g) is h right = let w = right g refl in inr (h.0, sym h.1 ∙ w.0, subst (λ (n : ℕ). max 8 n ≤ k) is w.1)
 

@@ -28,6 +28,7 @@ abbrev pub put_if : Store → Proposal → Option ℕ → Option Store
 put_if s proposal None = None
 put_if s proposal (Some checked) = Some (put_in s proposal.name proposal.program checked)
 
+-- the store that a finding makes, where it accepts
 abbrev pub next_store : Store → Finding → Option Store
 next_store s Nothing = None
 next_store s (Judged proposal answer) = put_if s proposal (accepted_count answer)
@@ -37,6 +38,7 @@ abbrev pub AreRunsFor : Store → Proposal → Option ℕ → List NodeRun → T
 AreRunsFor s proposal None runs = runs ≡ []
 AreRunsFor s proposal (Some checked) runs = AreRuns s proposal.name proposal.program checked runs
 
+-- the runs are those of the finding: none where nothing was proposed
 abbrev pub AreItsRuns : Store → Finding → List NodeRun → Type 0
 AreItsRuns s Nothing runs = runs ≡ []
 AreItsRuns s (Judged proposal answer) runs = AreRunsFor s proposal (accepted_count answer) runs
@@ -47,9 +49,9 @@ IsNamed Nothing = Unit {0}
 IsNamed (Judged proposal answer) = IsProposal proposal
 
 -- nothing was proposed, or the answer is that of judging
-abbrev pub IsTrue : Store → Terms → ℕ → Finding → Type 0
-IsTrue s terms limit Nothing = Unit {0}
-IsTrue s terms limit (Judged proposal answer) = IsJudged s terms limit proposal.name proposal.program answer
+abbrev pub IsTrueFinding : Store → Terms → ℕ → Finding → Type 0
+IsTrueFinding s terms limit Nothing = Unit {0}
+IsTrueFinding s terms limit (Judged proposal answer) = IsJudged s terms limit proposal.name proposal.program answer
 
 -- it is about this proposal, and nothing where there is none
 abbrev pub IsAbout : Option Proposal → Finding → Type 0

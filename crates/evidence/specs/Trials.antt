@@ -38,6 +38,7 @@ pub record IsLeastDearer (s : Store) (limit q : ℕ) (p : Text) (At : ℤ → Ty
   pub dearer : d.was < d.now
   pub least : (y : ℤ) → y <ℤ d.at → At y → IsDearerAt s limit q p y → ⊥
 
+-- none of these arguments is dearer, or this is the least that is
 abbrev pub IsLeastOrNone : Store → ℕ → ℕ → Text → (ℤ → Type 0) → Option Dearer → Type 0
 IsLeastOrNone s limit q p At None = (y : ℤ) → At y → IsDearerAt s limit q p y → ⊥
 IsLeastOrNone s limit q p At (Some d) = IsLeastDearer s limit q p At d
@@ -101,6 +102,7 @@ pub record AreSpent (s : Store) (terms : Terms) (limit q : ℕ) (p : Text) (befo
   pub ascending : IsAscending demanded
   pub bound : now ≤ before + (given + 1 + length demanded) * limit
 
+-- the steps that were spent on a proposal that there may be
 abbrev pub AreSpentFor : Store → Terms → ℕ → Option Proposal → ℕ → ℕ → Type 0
 AreSpentFor s terms limit None before now = now ≡ before
 AreSpentFor s terms limit (Some p) before now = AreSpent s terms limit p.name p.program before now

@@ -11,10 +11,10 @@ ghost use Rattle.demand_table.specs.Nodes.{ListsDem};
 ghost use Rattle.evidence.specs.Runs.{AreRunsAt, AreCosts, IsFirst};
 ghost use Rattle.evidence.specs.Trials.{IsCompared, IsLeastOrNone, IsKnownOr, IsLesserOf, SameStepsBelow};
 
-use crate::trying::{got_of, number_of, steps_for};
-use checked_numbers::Num;
+use crate::trying::steps_for;
+use checked_numbers::{Num, number_of};
 use demand_table::{Node, Tables};
-use judge::Got;
+use judge::{Got, got_of};
 use program_store::{Overlay, Proposal, Published};
 use seq_calls::{Evaluator, NodeRun, Steps};
 use std::alloc::{AllocError, Global};

@@ -2,7 +2,7 @@
 
 ghost use Rattle.std.specs.Prelude.{◌≡◌};
 ghost use Rattle.evidence.specs.Findings.{next_store};
-ghost use Rattle.evidence.specs.Dossiers.{IsKept};
+ghost use Rattle.evidence.specs.Dossiers.{IsDossierKept};
 
 use crate::finding::Finding;
 use crate::snapshot::Snapshot;
@@ -38,7 +38,7 @@ impl Model for Dossier {
     ghost view = { λ d. record { snapshot = d.snapshot; job = d.job; base = d.base; finding = d.finding; runs = d.runs } };
 
     ghost invariant = { λ d.
-        spec.IsKept (record { snapshot = d.snapshot; job = d.job; base = d.base; finding = d.finding; runs = d.runs })
+        spec.IsDossierKept (record { snapshot = d.snapshot; job = d.job; base = d.base; finding = d.finding; runs = d.runs })
         × (d.next ≡ next_store d.snapshot.store d.finding) };
 }
 
@@ -89,7 +89,7 @@ impl Dossier {
     /// The finished runs of an accepted proposal, and else none.
     pub fn runs(&self) -> &[NodeRun]
         ensures value { result.now ≡ self.now.runs }
-        ensures kept { IsKept self.now }
+        ensures kept { IsDossierKept self.now }
     {
         self.runs.list()
     }
@@ -125,7 +125,7 @@ impl Dossier {
         runs: Frames,
         next: Option<Tables>,
     ) -> Dossier
-        requires kept { IsKept (record { snapshot = snapshot; job = job; base = snapshot.version; finding = finding; runs = runs }) }
+        requires kept { IsDossierKept (record { snapshot = snapshot; job = job; base = snapshot.version; finding = finding; runs = runs }) }
         requires next { next ≡ next_store snapshot.store finding }
         ensures { result ≡ record { snapshot = snapshot; job = job; base = snapshot.version; finding = finding; runs = runs } }
     {

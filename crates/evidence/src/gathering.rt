@@ -4,7 +4,7 @@ ghost use Rattle.std.specs.Prelude.{◌≡◌, ◌≤◌, Some, IfOk, IfSome};
 ghost use Rattle.oeis_terms.specs.Table.{row_of, IsBounded};
 ghost use Rattle.program_store.specs.Store.{IsProposal};
 ghost use Rattle.judge.specs.Sound.{Sound};
-ghost use Rattle.evidence.specs.Findings.{IsTrue, IsAbout};
+ghost use Rattle.evidence.specs.Findings.{IsTrueFinding, IsAbout};
 ghost use Rattle.evidence.specs.Trials.{AreSpentFor};
 
 use crate::dossier::Dossier;
@@ -35,7 +35,7 @@ pub fn gather<L: Ledger>(
     ensures job { IfOk result (λ d. d.job ≡ job) }
     ensures base { IfOk result (λ d. d.base ≡ snapshot.now.version) }
     ensures about { IfOk result (λ d. IsAbout proposal d.finding) }
-    ensures finding { IfOk result (λ d. IsTrue snapshot.now.store (row_of terms.now) limit d.finding) }
+    ensures finding { IfOk result (λ d. IsTrueFinding snapshot.now.store (row_of terms.now) limit d.finding) }
     ensures spent { AreSpentFor snapshot.now.store (row_of terms.now) limit proposal steps.old steps.new }
 {
     match proposal {
@@ -70,7 +70,7 @@ fn gather_judged<L: Ledger>(
     ensures job { IfOk result (λ d. d.job ≡ job) }
     ensures base { IfOk result (λ d. d.base ≡ snapshot.now.version) }
     ensures about { IfOk result (λ d. IsAbout (Some proposal) d.finding) }
-    ensures finding { IfOk result (λ d. IsTrue snapshot.now.store (row_of terms.now) limit d.finding) }
+    ensures finding { IfOk result (λ d. IsTrueFinding snapshot.now.store (row_of terms.now) limit d.finding) }
     ensures spent { AreSpentFor snapshot.now.store (row_of terms.now) limit (Some proposal) steps.old steps.new }
 {
     let Weighed { answer, runs } = weigh(alloc, snapshot.tables(), terms, limit, &proposal, steps)?;

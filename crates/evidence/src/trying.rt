@@ -1,44 +1,17 @@
 //! Runs of a proposed program at the arguments that have terms.
 
-ghost use Rattle.std.specs.Prelude.{◌≡◌, ◌≤◌, pos, length, IfOk, IfSome, IfNone};
+ghost use Rattle.std.specs.Prelude.{◌≡◌, ◌≤◌, length, IfOk, IfSome, IfNone};
 ghost use Rattle.judge.specs.Misses.{got_told, IsFirstMiss};
 ghost use Rattle.seq_calls.specs.declared.outcomes.Outcome.TheVariants as told_as;
 ghost use Rattle.evidence.specs.Runs.{AreFirst};
 ghost use Rattle.evidence.specs.Trials.{AreSpentOnTerms};
 
-use checked_numbers::Num;
-use judge::Got;
-use loda_semantics::FaultKind;
+use checked_numbers::{Num, number_of};
+use judge::{Got, got_of};
 use program_store::Library;
 use seq_calls::{Evaluator, NodeRun, Outcome, Steps};
 use std::alloc::{AllocError, Global};
 use std::sync::ledger::Ledger;
-
-/// What was got of a run.
-pub fn got_of(outcome: Outcome) -> Got
-    ensures { result ≡ got_told outcome }
-{
-    match outcome {
-        Outcome::Value { value, .. } => Got::Value(value),
-        Outcome::Fault { kind, .. } => match kind {
-            FaultKind::Overflow => Got::Overflow,
-            FaultKind::DivideByZero => Got::DivideByZero,
-            FaultKind::BadCell => Got::BadCell,
-            FaultKind::Missing => Got::Missing,
-        },
-        Outcome::OutOfSteps => Got::OutOfSteps,
-    }
-}
-
-/// The number of an index.
-pub fn number_of(index: u32) -> Num
-    ensures { result ≡ pos index }
-{
-    match Num::new(i128::from(index)) {
-        Some(number) => number,
-        None => unreachable!(),
-    }
-}
 
 /// The steps of a run that gave a number. `None` where it gave another one or none.
 pub fn steps_for(outcome: Outcome, number: Num) -> Option<u64>

@@ -10,12 +10,12 @@ use Rattle.loda_syntax.specs.declared.instr.Instr.{Instr}
 use Rattle.loda_syntax.specs.declared.instr.Instr.TheVariants.{Arith}
 
 -- the verbs that are drawn, numbered from 0
-abbrev pub verbs : List Verb
-verbs = Mov ∷ Add ∷ Sub ∷ Mul ∷ Trn ∷ Div ∷ Mod ∷ Pow ∷ Gcd ∷ Bin ∷ Equ ∷ Max ∷ []
+abbrev pub drawn_verbs : List Verb
+drawn_verbs = Mov ∷ Add ∷ Sub ∷ Mul ∷ Trn ∷ Div ∷ Mod ∷ Pow ∷ Gcd ∷ Bin ∷ Equ ∷ Max ∷ []
 
 -- the verb with this number
 abbrev pub verb_at : ℕ → Verb
-verb_at k = slice_index_or verbs k Mov
+verb_at k = slice_index_or drawn_verbs k Mov
 
 -- a source, and the words that are left: one of the first four cells, or a constant from -2 to 9
 abbrev pub drawn_source : Stream → Operand × Stream

@@ -18,7 +18,7 @@ use Rattle.judge.specs.Passed.{Terms}
 use Rattle.judge.specs.Misses.{IsNewCount}
 use Rattle.judge.specs.Sound.{Sound}
 use Rattle.judge.specs.Judged.{Enters, Passes, IsJudged}
-use Rattle.judge.specs.Kept.{IsKept}
+use Rattle.judge.specs.Kept.{AnswerKeeps}
 use Rattle.judge.proofs.Keep.{keep}
 use Rattle.judge.proofs.Rows.{eight_terms}
 
@@ -63,6 +63,6 @@ pub within_ample : (limit : ℕ) → limit < 2 ^ 64 → limit ≤ ample
 unfolding ample
 within_ample limit h = omega arith
 
-pub kept : (s : Store) (table : Table) (limit q : ℕ) (p : Text) (answer : Answer) → limit < 2 ^ 64 → IsTable table → Sound s (row_of table) limit → IsJudged s (row_of table) limit q p answer → IsKept s (row_of table) limit q p answer
+pub kept : (s : Store) (table : Table) (limit q : ℕ) (p : Text) (answer : Answer) → limit < 2 ^ 64 → IsTable table → Sound s (row_of table) limit → IsJudged s (row_of table) limit q p answer → AnswerKeeps s (row_of table) limit q p answer
 kept s table limit q p answer fits good sound judged = λ checked e.
     keep s (row_of table) limit q p checked (within_ample limit fits) (eight_terms table good) sound (subst (λ (a : Answer). IsJudged s (row_of table) limit q p a) e judged)

@@ -1,5 +1,5 @@
 -- The keep law: an accepted proposal takes nothing from anybody, and the next store is sound.
-use Rattle.std.proofs.Common.{ℕ, suc, ◌+◌, ◌-◌, ◌<◌, ◌≤◌, ◌≡◌, ◌≢◌, refl, sym, ap, subst, ◌∙◌, arith, ℤ, pos, inl, inr, List, length, true, false, eqb, cond}
+use Rattle.std.proofs.Common.{ℕ, suc, ◌+◌, ◌-◌, ◌<◌, ◌≤◌, ◌≡◌, ◌≢◌, refl, sym, ap, subst, ◌∙◌, arith, ℤ, pos, inl, inr, List, length}
 use Rattle.std.specs.Prelude.{◌⊎◌, slice_get}
 use Rattle.std.specs.declared.option.Option.{Option}
 use Rattle.std.specs.declared.option.Option.TheVariants.{Some, None}
@@ -10,7 +10,7 @@ use Rattle.loda_semantics.specs.Exec.{Outcome, value, fault, Calls, Library, run
 use Rattle.loda_semantics.proofs.Laws.{used_within}
 use Rattle.loda_semantics.proofs.Keeps.{Cheaper, keeps_deep}
 use Rattle.program_store.specs.declared.published.Published.{Published}
-use Rattle.program_store.specs.Store.{Store, published_at, programs_of, with_program, checked_at, checked_in, put_in, after, IsPublished}
+use Rattle.program_store.specs.Store.{Store, published_at, programs_of, checked_at, checked_in, put_in, after, IsPublished}
 use Rattle.program_store.specs.Graph.{NoCycle}
 use Rattle.seq_calls.specs.Demand.{ample, InDem, IsReliedOn}
 use Rattle.seq_calls.specs.Values.{outcome, Gives, KeepsValue}
@@ -20,33 +20,14 @@ use Rattle.seq_calls.specs.Runs.{HasRun}
 use Rattle.seq_calls.proofs.Relied.{is_checked}
 use Rattle.seq_calls.proofs.Bounded.{with_steps}
 use Rattle.seq_calls.proofs.Stay.{all_traced}
-use Rattle.program_store.proofs.Puts.{put_here, put_elsewhere}
+use Rattle.program_store.proofs.Puts.{put_here, put_elsewhere, with_here, with_elsewhere, next_programs}
 use Rattle.judge.specs.Passed.{Terms, PassesBelow}
 use Rattle.judge.specs.Sound.{Sound, IsEntrySound}
-use Rattle.judge.specs.Judged.{Checks, Passes, NoDearer}
+use Rattle.judge.specs.Judged.{IsNewChecked, Passes, NoDearer}
 use Rattle.judge.specs.Kept.{LosesNothing, HasEight, Keeps}
 use Rattle.judge.proofs.Values.{decide, true_unless, agree_gives, term_at, place_within}
 use Rattle.judge.proofs.Demanded.{run_of, demanded_runs, relied_runs}
 use Rattle.judge.proofs.NewCycles.{no_new_cycle}
-
--- ---- the store with the program put in
-
-with_here : (lib : Library) (q : ℕ) (p : Text) → with_program lib q p q ≡ Some p
-with_here lib q p = ap (λ b. cond b (Some p) (lib q)) (let e : eqb q q ≡ true = grind arith in e)
-
-with_elsewhere : (lib : Library) (q : ℕ) (p : Text) (r : ℕ) → r ≢ q → with_program lib q p r ≡ lib r
-with_elsewhere lib q p r other = ap (λ b. cond b (Some p) (lib r)) (let e : eqb r q ≡ false = grind arith in e)
-
--- the programs of the next store are those of the present one with the proposed one in its place
-same_at : (s : Store) (q : ℕ) (p : Text) (k n : ℕ) → programs_of (put_in s q p k) n ≡ after s q p n
-same_at s q p k n = by_name (decide n q)
-  where
-    by_name : (n ≡ q) ⊎ (n ≢ q) → programs_of (put_in s q p k) n ≡ after s q p n
-    by_name (inl same) = subst (λ (z : ℕ). programs_of (put_in s q p k) z ≡ after s q p z) (sym same) (ap (option_map (λ (e : Published). e.program)) (put_here s q p k) ∙ sym (with_here (programs_of s) q p))
-    by_name (inr other) = ap (option_map (λ (e : Published). e.program)) (put_elsewhere s q p k n other) ∙ sym (with_elsewhere (programs_of s) q p n other)
-
-pub next_programs : (s : Store) (q : ℕ) (p : Text) (k : ℕ) → programs_of (put_in s q p k) ≡ after s q p
-next_programs s q p k = λ i n. same_at s q p k n i
 
 -- ---- what was relied on
 
@@ -57,7 +38,7 @@ has_program s q None x n d v used c there h = absurd (let z : fault Missing 0 �
 has_program s q (Some e) x n d v used c there h = (e, there)
 
 -- the checked count doesn't fall
-pub grows : (s : Store) (terms : Terms) (limit q : ℕ) (row : List ℤ) (checked : ℕ) (lib : Library) → Sound s terms limit → terms q ≡ Some row → Checks lib row q limit (checked_at s q) checked → checked_at s q ≤ checked
+pub grows : (s : Store) (terms : Terms) (limit q : ℕ) (row : List ℤ) (checked : ℕ) (lib : Library) → Sound s terms limit → terms q ≡ Some row → IsNewChecked lib row q limit (checked_at s q) checked → checked_at s q ≤ checked
 grows s terms limit q row checked lib sound listed (inl all) = by_entry (published_at s q) refl
   where
     same_row : (r : List ℤ) → terms q ≡ Some r → length r ≡ length row
@@ -89,7 +70,7 @@ module _ (s : Store) (terms : Terms) (limit q : ℕ) (p : Text) (checked : ℕ) 
   unfolding passes
   gives_checked = by_case passes.checks
     where
-      by_case : Checks (after s q p) row q limit (checked_at s q) checked → PassesBelow (after s q p) row q limit checked
+      by_case : IsNewChecked (after s q p) row q limit (checked_at s q) checked → PassesBelow (after s q p) row q limit checked
       by_case (inl all) = all.0
       by_case (inr cut) = cut.0.3
 
@@ -199,7 +180,7 @@ module _ (s : Store) (terms : Terms) (limit q : ℕ) (p : Text) (checked : ℕ) 
         listed : terms q ≡ Some row
         listed = judged.unbroken.passes.enters.listed
 
-        by_case : Checks (after s q p) row q limit (checked_at s q) checked → (8 ≤ checked) × (checked ≤ length row)
+        by_case : IsNewChecked (after s q p) row q limit (checked_at s q) checked → (8 ≤ checked) × (checked ≤ length row)
         by_case (inl all) = (let h = all.1 in let l = eight q row listed in omega (arith, h, l), let h = all.1 in omega (arith, h))
         by_case (inr cut) = (let h = cut.2 in omega (arith, h), let w = place_within row checked cut.0.0 cut.0.1 in omega (arith, w))
 

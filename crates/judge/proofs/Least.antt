@@ -8,7 +8,7 @@ use Rattle.judge.specs.declared.comparing.BothRuns.{BothRuns}
 use Rattle.judge.specs.declared.comparing.CheckedRun.{CheckedRun}
 use Rattle.judge.specs.declared.comparing.Changed.{Changed}
 use Rattle.judge.specs.declared.comparing.Changes.{Changes}
-use Rattle.judge.specs.Changes.{OtherValue, MoreSteps, AtOrBefore, IsLeastChange, IsLeast, AreChanges, IsLesser, IsNext}
+use Rattle.judge.specs.Changes.{OtherValue, NeedsMoreSteps, AtOrBefore, IsLeastChange, IsLeastChangeOrNone, AreChanges, IsLesser, IsNext}
 
 pub by_test : (b : Bool) (P : Type 0) (known next : Option Changed) (met : Changed) → (IsTrue b → P) → (P → IsTrue b) → IsLesser b known met next → IsNext P known met next
 by_test true P known next met to from k = inl (to refl, k)
@@ -22,7 +22,7 @@ lesser-trans x y z a b = omega (arith, ints)
 
 module _ (Kind : BothRuns → Type 0) (runs : ℤ → BothRuns) where
   pub same_relied : (Relied Other : CheckedRun → ℤ → Type 0) → ((r : CheckedRun) (x : ℤ) → Relied r x → Other r x) → ((r : CheckedRun) (x : ℤ) → Other r x → Relied r x)
-      → (o : Option Changed) → IsLeast Kind runs Relied o → IsLeast Kind runs Other o
+      → (o : Option Changed) → IsLeastChangeOrNone Kind runs Relied o → IsLeastChangeOrNone Kind runs Other o
   same_relied Relied Other to from None h = λ r x k change. h r x (from r x k) change
   same_relied Relied Other to from (Some c) h = record {
     relied = to c.by c.at h.relied;
@@ -68,7 +68,7 @@ module _ (Kind : BothRuns → Type 0) (runs : ℤ → BothRuns) where
         by_place (inr e) = subst (λ (z : ℤ). at <ℤ z) e.0 lt
 
     -- where what was met changes nothing, all stays
-    passed_over : (o : Option Changed) → (Kind (runs at) → ⊥) → IsLeast Kind runs Relied o → IsLeast Kind runs Then o
+    passed_over : (o : Option Changed) → (Kind (runs at) → ⊥) → IsLeastChangeOrNone Kind runs Relied o → IsLeastChangeOrNone Kind runs Then o
     passed_over None not h = none
       where
         none : (r : CheckedRun) (x : ℤ) → Then r x → Kind (runs x) → ⊥
@@ -80,33 +80,33 @@ module _ (Kind : BothRuns → Type 0) (runs : ℤ → BothRuns) where
         least r x (inl k) change = h.least r x k change
         least r x (inr k) change = absurd (not (subst (λ (z : ℤ). Kind (runs z)) k.1 change))
 
-    moved : (known next : Option Changed) → known ≡ next → IsLeast Kind runs Then known → IsLeast Kind runs Then next
-    moved known next e h = subst (λ (o : Option Changed). IsLeast Kind runs Then o) e h
+    moved : (known next : Option Changed) → known ≡ next → IsLeastChangeOrNone Kind runs Then known → IsLeastChangeOrNone Kind runs Then next
+    moved known next e h = subst (λ (o : Option Changed). IsLeastChangeOrNone Kind runs Then o) e h
 
-    kept_new : (known next : Option Changed) (given : BothRuns) → given ≡ runs at → Kind (runs at) → IsLesser true known (new given) next → IsLeast Kind runs Relied known → IsLeast Kind runs Then next
+    kept_new : (known next : Option Changed) (given : BothRuns) → given ≡ runs at → Kind (runs at) → IsLesser true known (new given) next → IsLeastChangeOrNone Kind runs Relied known → IsLeastChangeOrNone Kind runs Then next
     kept_new None next given is change k h = moved (Some (new given)) next (sym k) (is_least given is change (λ r x m other. absurd (h r x m other)))
     kept_new (Some c) next given is change (inl k) h = moved (Some c) next (sym k.1) (stays c h k.0)
     kept_new (Some c) next given is change (inr k) h = moved (Some (new given)) next (sym k.1) (is_least given is change (above_all c h k.0))
 
-    pub one_more : (known next : Option Changed) (given : BothRuns) → given ≡ runs at → IsNext (Kind given) known (new given) next → IsLeast Kind runs Relied known → IsLeast Kind runs Then next
+    pub one_more : (known next : Option Changed) (given : BothRuns) → given ≡ runs at → IsNext (Kind given) known (new given) next → IsLeastChangeOrNone Kind runs Relied known → IsLeastChangeOrNone Kind runs Then next
     one_more known next given is (inl k) h = kept_new known next given is (subst Kind is k.0) k.1 h
     one_more known next given is (inr k) h = moved known next (sym k.1) (passed_over known (λ change. k.0 (subst Kind (sym is) change)) h)
 
 pub changes_more : (runs : ℤ → BothRuns) (Relied : CheckedRun → ℤ → Type 0) (by : CheckedRun) (at : ℤ) → ((r : CheckedRun) (x : ℤ) → Relied r x → AtOrBefore r by)
     → (known next : Changes) (given : BothRuns) → given ≡ runs at
     → IsNext (OtherValue given) known.other_value (record { at = at; by = by; runs = given }) next.other_value
-    → IsNext (MoreSteps given) known.more_steps (record { at = at; by = by; runs = given }) next.more_steps
+    → IsNext (NeedsMoreSteps given) known.more_steps (record { at = at; by = by; runs = given }) next.more_steps
     → AreChanges runs Relied known → AreChanges runs (λ r x. Relied r x ⊎ ((r ≡ by) × (x ≡ at))) next
 changes_more runs Relied by at before known next given is other more h = record {
   other_value = one_more OtherValue runs Relied by at before known.other_value next.other_value given is other h.other_value;
-  more_steps = one_more MoreSteps runs Relied by at before known.more_steps next.more_steps given is more h.more_steps;
+  more_steps = one_more NeedsMoreSteps runs Relied by at before known.more_steps next.more_steps given is more h.more_steps;
 }
 
 pub changes_same : (runs : ℤ → BothRuns) (Relied Other : CheckedRun → ℤ → Type 0) → ((r : CheckedRun) (x : ℤ) → Relied r x → Other r x) → ((r : CheckedRun) (x : ℤ) → Other r x → Relied r x)
     → (c : Changes) → AreChanges runs Relied c → AreChanges runs Other c
 changes_same runs Relied Other to from c h = record {
   other_value = same_relied OtherValue runs Relied Other to from c.other_value h.other_value;
-  more_steps = same_relied MoreSteps runs Relied Other to from c.more_steps h.more_steps;
+  more_steps = same_relied NeedsMoreSteps runs Relied Other to from c.more_steps h.more_steps;
 }
 
 pub changes_none : (runs : ℤ → BothRuns) (Relied : CheckedRun → ℤ → Type 0) → ((r : CheckedRun) (x : ℤ) → Relied r x → ⊥) → AreChanges runs Relied (record { other_value = None; more_steps = None })

@@ -15,7 +15,7 @@ use Rattle.judge.specs.declared.answer.Got.TheVariants as got
 use Rattle.judge.specs.declared.answer.Answer.{Answer}
 use Rattle.judge.specs.declared.answer.Answer.TheVariants.{Accepted, Unlisted, Cycle, WrongTerm, BrokenDependant, Costlier, NoGain}
 use Rattle.judge.specs.Passed.{Terms, got_of, PassesBelow, FailsFirst}
-use Rattle.judge.specs.Judged.{Checks, Breaks, CostsMore, Gainless, Enters, Passes, Unbroken, NoDearer, IsJudged}
+use Rattle.judge.specs.Judged.{IsNewChecked, Breaks, CostsMore, Gainless, Enters, Passes, Unbroken, NoDearer, IsJudged}
 use Rattle.judge.specs.One.{HasOneAnswer}
 use Rattle.judge.proofs.Values.{place_within}
 use Rattle.judge.proofs.Firsts.{first-same, least-same, contains-here}
@@ -51,7 +51,7 @@ fails_same lib row q limit a b f g =
 fails_within : (lib : Library) (row : List ℤ) (q limit k : ℕ) → FailsFirst lib row q limit k → k < length row
 fails_within lib row q limit k f = place_within row k f.0 f.1
 
-checks_same : (lib : Library) (row : List ℤ) (q limit old a b : ℕ) → Checks lib row q limit old a → Checks lib row q limit old b → a ≡ b
+checks_same : (lib : Library) (row : List ℤ) (q limit old a b : ℕ) → IsNewChecked lib row q limit old a → IsNewChecked lib row q limit old b → a ≡ b
 checks_same lib row q limit old a b (inl h) (inl k) = h.1 ∙ sym k.1
 checks_same lib row q limit old a b (inl h) (inr k) =
     absurd (let l = not_below lib row q limit b a k.0 h.0 in let w = fails_within lib row q limit b k.0 in let e = h.1 in omega (arith, l, w, e))
@@ -61,7 +61,7 @@ checks_same lib row q limit old a b (inr h) (inr k) = fails_same lib row q limit
 
 -- a term that isn't given for want of steps is a wrong term, or ends what is checked, and never both
 wrong_or_checks : (lib : Library) (row : List ℤ) (q limit old index k : ℕ) → FailsFirst lib row q limit index
-    → (got_of (outcome lib q (pos index) limit) ≡ got.OutOfSteps → index < max 8 old) → Checks lib row q limit old k → ⊥
+    → (got_of (outcome lib q (pos index) limit) ≡ got.OutOfSteps → index < max 8 old) → IsNewChecked lib row q limit old k → ⊥
 wrong_or_checks lib row q limit old index k f wrong (inl h) = let l = not_below lib row q limit index k f h.0 in let w = fails_within lib row q limit index f in let e = h.1 in omega (arith, l, w, e)
 wrong_or_checks lib row q limit old index k f wrong (inr h) =
     let same : index ≡ k = fails_same lib row q limit index k f h.0 in
@@ -85,7 +85,7 @@ module _ (s : Store) (terms : Terms) (limit q : ℕ) (p : Text) where
   Finds (suc (suc (suc zero))) = IsPublished s q × (x : ℤ) × Breaks s limit q p x
   Finds (suc (suc (suc (suc zero)))) = IsPublished s q × (x : ℤ) × CostsMore s limit q p x
   Finds (suc (suc (suc (suc (suc zero))))) =
-      IsPublished s q × (row : List ℤ) × (checked : ℕ) × (terms q ≡ Some row) × Checks (after s q p) row q limit (checked_at s q) checked × Gainless s limit q p checked
+      IsPublished s q × (row : List ℤ) × (checked : ℕ) × (terms q ≡ Some row) × IsNewChecked (after s q p) row q limit (checked_at s q) checked × Gainless s limit q p checked
   Finds (suc (suc (suc (suc (suc (suc k)))))) = Unit {0}
 
   -- the tests before this one found nothing
@@ -129,7 +129,7 @@ module _ (s : Store) (terms : Terms) (limit q : ℕ) (p : Text) where
     past_no_dearer row checked h,
     λ f.
         let same : f.1 ≡ row = same_row terms q f.1 row f.3 h.unbroken.passes.enters.listed in
-        let mine : Checks (after s q p) row q limit (checked_at s q) f.2 = subst (λ (r : List ℤ). Checks (after s q p) r q limit (checked_at s q) f.2) same f.4 in
+        let mine : IsNewChecked (after s q p) row q limit (checked_at s q) f.2 = subst (λ (r : List ℤ). IsNewChecked (after s q p) r q limit (checked_at s q) f.2) same f.4 in
         let counts : f.2 ≡ checked = checks_same (after s q p) row q limit (checked_at s q) f.2 checked mine h.unbroken.passes.checks in
         gain f.0 (subst (λ (k : ℕ). Gainless s limit q p k) counts f.5),
   )
@@ -198,7 +198,7 @@ module _ (s : Store) (terms : Terms) (limit q : ℕ) (p : Text) where
   same_rank NoGain NoGain e h k = refl
   same_rank (Accepted c) (Accepted d) e h k =
       let rows : k.0 ≡ h.0 = same_row terms q k.0 h.0 k.1.unbroken.passes.enters.listed h.1.unbroken.passes.enters.listed in
-      ap (λ (n : ℕ). Accepted n) (checks_same (after s q p) h.0 q limit (checked_at s q) c d h.1.unbroken.passes.checks (subst (λ (r : List ℤ). Checks (after s q p) r q limit (checked_at s q) d) rows k.1.unbroken.passes.checks))
+      ap (λ (n : ℕ). Accepted n) (checks_same (after s q p) h.0 q limit (checked_at s q) c d h.1.unbroken.passes.checks (subst (λ (r : List ℤ). IsNewChecked (after s q p) r q limit (checked_at s q) d) rows k.1.unbroken.passes.checks))
   same_rank a b e h k = absurd (omega arith)
 
 pub one_answer : (s : Store) (terms : Terms) (limit q : ℕ) (p : Text) → HasOneAnswer s terms limit q p

@@ -21,8 +21,8 @@ use Rattle.judge.specs.declared.comparing.Changed.{Changed}
 use Rattle.judge.specs.Passed.{Terms, agree, PassesBelow}
 use Rattle.judge.specs.Misses.{got_told}
 use Rattle.judge.specs.Sound.{Sound}
-use Rattle.judge.specs.Judged.{Checks, Breaks, CostsMore, Gainless, Passes, Unbroken, NoDearer, IsJudged}
-use Rattle.judge.specs.Changes.{runs_at, SameValue, OtherValue, MoreSteps, SameSteps, Relies, AtOrBefore, IsLeastChange, IsSoundStore}
+use Rattle.judge.specs.Judged.{IsNewChecked, Breaks, CostsMore, Gainless, Passes, Unbroken, NoDearer, IsJudged}
+use Rattle.judge.specs.Changes.{runs_at, SameValue, OtherValue, NeedsMoreSteps, SameSteps, Relies, AtOrBefore, IsLeastChange, IsSoundStore}
 use Rattle.judge.specs.Replaced.{HasValue, IsBroken, IsCostlier, BringsNothing}
 use Rattle.judge.proofs.Values.{true_unless, term_at}
 use Rattle.judge.proofs.Misses.{got_same, false_unless}
@@ -56,14 +56,14 @@ breaks_other a b h = λ same. let t : IsTrue (agree a b) = same_agree a b same i
 other_breaks : (a b : Outcome) → OtherValue (both a b) → IsFalse (agree a b)
 other_breaks a b h = false_unless (agree a b) (λ t. h (agree_same a b t))
 
-costs_more : (a b : Outcome) → SameValue (both a b) → steps_of a < steps_of b → MoreSteps (both a b)
+costs_more : (a b : Outcome) → SameValue (both a b) → steps_of a < steps_of b → NeedsMoreSteps (both a b)
 costs_more (value v n) (value w m) same lt = lt
 costs_more (value v n) (fault k m) same lt = absurd same
 costs_more (value v n) (out m) same lt = absurd same
 costs_more (fault k n) b same lt = absurd same
 costs_more (out n) b same lt = absurd same
 
-more_costs : (a b : Outcome) → MoreSteps (both a b) → steps_of a < steps_of b
+more_costs : (a b : Outcome) → NeedsMoreSteps (both a b) → steps_of a < steps_of b
 more_costs (value v n) (value w m) lt = lt
 more_costs (value v n) (fault k m) h = absurd h
 more_costs (value v n) (out m) h = absurd h
@@ -127,7 +127,7 @@ module _ (s : Store) (limit q : ℕ) (p : Text) (checked : ℕ) (e : Published) 
   gives_checked : PassesBelow (after s q p) row q limit checked
   gives_checked = by_case passes.checks
     where
-      by_case : Checks (after s q p) row q limit (checked_at s q) checked → PassesBelow (after s q p) row q limit checked
+      by_case : IsNewChecked (after s q p) row q limit (checked_at s q) checked → PassesBelow (after s q p) row q limit checked
       by_case (inl all) = all.0
       by_case (inr cut) = cut.0.3
 
@@ -200,10 +200,10 @@ module _ (s : Store) (limit q : ℕ) (p : Text) (checked : ℕ) (e : Published) 
         let new = outcome (after s q p) q x limit in
         agree_same old new (true_unless (agree old new) (λ f. none r x k (breaks_other old new f)))
 
-    more_of : (x : ℤ) → CostsMore s limit q p x → (r : CheckedRun) × Relies s q r x × MoreSteps (runs_at s limit q p x)
+    more_of : (x : ℤ) → CostsMore s limit q p x → (r : CheckedRun) × Relies s q r x × NeedsMoreSteps (runs_at s limit q p x)
     more_of x k = let who = someone s q x k.0 in (who.0, who.1, costs_more (outcome (programs_of s) q x limit) (outcome (after s q p) q x limit) (all_same who.0 x who.1) k.1)
 
-    pub judged_costlier : (c : Changed) (a : Answer) → IsLeastChange MoreSteps (runs_at s limit q p) (Relies s q) c → IsCostlier c a → IsJudged s terms limit q p a
+    pub judged_costlier : (c : Changed) (a : Answer) → IsLeastChange NeedsMoreSteps (runs_at s limit q p) (Relies s q) c → IsCostlier c a → IsJudged s terms limit q p a
     judged_costlier c a h is = subst (λ (z : Answer). IsJudged s terms limit q p z) (sym is.6) (
       row,
       checked,
@@ -217,14 +217,14 @@ module _ (s : Store) (limit q : ℕ) (p : Text) (checked : ℕ) (e : Published) 
         none_less : (y : ℤ) → y <ℤ c.at → CostsMore s limit q p y → ⊥
         none_less y lt k = by_case (h.least who.0 y who.1 who.2)
           where
-            who : (r : CheckedRun) × Relies s q r y × MoreSteps (runs_at s limit q p y)
+            who : (r : CheckedRun) × Relies s q r y × NeedsMoreSteps (runs_at s limit q p y)
             who = more_of y k
 
             by_case : (c.at <ℤ y) ⊎ ((c.at ≡ y) × AtOrBefore c.by who.0) → ⊥
             by_case (inl l) = not_both y c.at lt l
             by_case (inr m) = not_below_itself y (subst (λ (z : ℤ). y <ℤ z) m.0 lt)
 
-    module _ (no_more : (r : CheckedRun) (x : ℤ) → Relies s q r x → MoreSteps (runs_at s limit q p x) → ⊥) where
+    module _ (no_more : (r : CheckedRun) (x : ℤ) → Relies s q r x → NeedsMoreSteps (runs_at s limit q p x) → ⊥) where
       no_dearer : NoDearer s terms limit q p row checked
       no_dearer = record { unbroken = unbroken; no_dearer = λ published x k. let who = more_of x k in no_more who.0 x who.1 who.2 }
 

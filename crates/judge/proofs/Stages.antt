@@ -13,7 +13,7 @@ use Rattle.seq_calls.proofs.Relied.{is_checked}
 use Rattle.judge.specs.declared.comparing.BothRuns.{BothRuns}
 use Rattle.judge.specs.declared.comparing.CheckedRun.{CheckedRun}
 use Rattle.judge.specs.declared.comparing.Changes.{Changes}
-use Rattle.judge.specs.Changes.{OtherValue, MoreSteps, Relies, Before, AtOrBefore, ReliesBefore, ReliesUpTo, IsAmong, IsNext, AreChanges, IsSoundStore, MayRely}
+use Rattle.judge.specs.Changes.{OtherValue, NeedsMoreSteps, Relies, Before, AtOrBefore, ReliesBefore, ReliesUpTo, IsAmong, IsNext, AreChanges, IsSoundStore, MayRely}
 use Rattle.judge.proofs.Fresh.{within_ample}
 use Rattle.judge.proofs.Frames.{among_next, next_old, next_new, relies_of, among_relies}
 use Rattle.judge.proofs.Traces.{relies_may}
@@ -77,7 +77,7 @@ module _ (s : Store) (q : ℕ) where
 
         pub frames_more : (known next : Changes) (given : BothRuns) → node.pair.name ≡ q → given ≡ runs node.pair.arg
             → IsNext (OtherValue given) known.other_value (record { at = node.pair.arg; by = by; runs = given }) next.other_value
-            → IsNext (MoreSteps given) known.more_steps (record { at = node.pair.arg; by = by; runs = given }) next.more_steps
+            → IsNext (NeedsMoreSteps given) known.more_steps (record { at = node.pair.arg; by = by; runs = given }) next.more_steps
             → AreChanges runs (ReliesUpTo s q by (take i nodes)) known → AreChanges runs (ReliesUpTo s q by (take (i + 1) nodes)) next
         frames_more known next given name given_is other more h =
             changes_same runs (λ r x. ReliesUpTo s q by (take i nodes) r x ⊎ ((r ≡ by) × (x ≡ node.pair.arg))) (ReliesUpTo s q by (take (i + 1) nodes)) to back next

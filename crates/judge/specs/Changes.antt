@@ -39,8 +39,8 @@ abbrev pub OtherValue : BothRuns → Type 0
 OtherValue runs = SameValue runs → ⊥
 
 -- both runs have values, and the new one takes more steps
-abbrev pub MoreSteps : BothRuns → Type 0
-MoreSteps runs = BothValues (λ v n w m. n < m) runs.with_old runs.with_new
+abbrev pub NeedsMoreSteps : BothRuns → Type 0
+NeedsMoreSteps runs = BothValues (λ v n w m. n < m) runs.with_old runs.with_new
 
 -- both runs have values, with as many steps
 abbrev pub SameSteps : BothRuns → Type 0
@@ -95,14 +95,14 @@ pub record IsLeastChange (Kind : BothRuns → Type 0) (runs : ℤ → BothRuns) 
   pub least : (r : CheckedRun) (x : ℤ) → Relied r x → Kind (runs x) → (c.at <ℤ x) ⊎ ((c.at ≡ x) × AtOrBefore c.by r)
 
 -- nothing changes so, or this is the least change
-abbrev pub IsLeast : (BothRuns → Type 0) → (ℤ → BothRuns) → (CheckedRun → ℤ → Type 0) → Option Changed → Type 0
-IsLeast Kind runs Relied None = (r : CheckedRun) (x : ℤ) → Relied r x → Kind (runs x) → ⊥
-IsLeast Kind runs Relied (Some c) = IsLeastChange Kind runs Relied c
+abbrev pub IsLeastChangeOrNone : (BothRuns → Type 0) → (ℤ → BothRuns) → (CheckedRun → ℤ → Type 0) → Option Changed → Type 0
+IsLeastChangeOrNone Kind runs Relied None = (r : CheckedRun) (x : ℤ) → Relied r x → Kind (runs x) → ⊥
+IsLeastChangeOrNone Kind runs Relied (Some c) = IsLeastChange Kind runs Relied c
 
 -- the least change of each kind
 pub record AreChanges (runs : ℤ → BothRuns) (Relied : CheckedRun → ℤ → Type 0) (c : Changes) : Type 0 where
-  pub other_value : IsLeast OtherValue runs Relied c.other_value
-  pub more_steps : IsLeast MoreSteps runs Relied c.more_steps
+  pub other_value : IsLeastChangeOrNone OtherValue runs Relied c.other_value
+  pub more_steps : IsLeastChangeOrNone NeedsMoreSteps runs Relied c.more_steps
 
 -- the least changes that a proposal makes for all checked runs
 abbrev pub AreAllChanges : Store → ℕ → Proposal → Changes → Type 0

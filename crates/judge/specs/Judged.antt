@@ -19,8 +19,8 @@ abbrev pub LeastWith : (ℤ → Type 0) → ℤ → Type 0
 LeastWith P x = P x × ((y : ℤ) → y <ℤ x → P y → ⊥)
 
 -- The new checked count: all usable terms are given, or the steps run out past the old count and eight.
-abbrev pub Checks : Library → List ℤ → ℕ → ℕ → ℕ → ℕ → Type 0
-Checks lib row q limit old checked =
+abbrev pub IsNewChecked : Library → List ℤ → ℕ → ℕ → ℕ → ℕ → Type 0
+IsNewChecked lib row q limit old checked =
     (PassesBelow lib row q limit checked × (checked ≡ length row))
     ⊎ (FailsFirst lib row q limit checked × (got_of (outcome lib q (pos checked) limit) ≡ got.OutOfSteps) × (max 8 old ≤ checked))
 
@@ -48,7 +48,7 @@ pub record Enters (s : Store) (terms : Terms) (q : ℕ) (p : Text) (row : List �
 -- and gives its terms
 pub record Passes (s : Store) (terms : Terms) (limit q : ℕ) (p : Text) (row : List ℤ) (checked : ℕ) : Type 0 where
   pub enters : Enters s terms q p row
-  pub checks : Checks (after s q p) row q limit (checked_at s q) checked
+  pub checks : IsNewChecked (after s q p) row q limit (checked_at s q) checked
 
 -- and breaks no caller
 pub record Unbroken (s : Store) (terms : Terms) (limit q : ℕ) (p : Text) (row : List ℤ) (checked : ℕ) : Type 0 where

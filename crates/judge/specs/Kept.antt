@@ -27,5 +27,5 @@ Keeps s terms limit q p checked =
     → Sound (put_in s q p checked) terms limit × LosesNothing limit s (put_in s q p checked)
 
 -- what an answer keeps: where the proposal is accepted, the next store is sound, and nothing is lost
-abbrev pub IsKept : Store → Terms → ℕ → ℕ → Text → Answer → Type 0
-IsKept s terms limit q p answer = (checked : ℕ) → answer ≡ Accepted checked → Sound (put_in s q p checked) terms limit × LosesNothing limit s (put_in s q p checked)
+abbrev pub AnswerKeeps : Store → Terms → ℕ → ℕ → Text → Answer → Type 0
+AnswerKeeps s terms limit q p answer = (checked : ℕ) → answer ≡ Accepted checked → Sound (put_in s q p checked) terms limit × LosesNothing limit s (put_in s q p checked)

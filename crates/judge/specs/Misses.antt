@@ -15,7 +15,7 @@ use Rattle.judge.specs.declared.answer.Got.TheVariants as got
 use Rattle.judge.specs.declared.answer.Unsound.{Unsound}
 use Rattle.judge.specs.declared.passing.NewCount.{NewCount}
 use Rattle.judge.specs.declared.passing.NewCount.TheVariants.{Checked, Wrong}
-use Rattle.judge.specs.Judged.{Checks}
+use Rattle.judge.specs.Judged.{IsNewChecked}
 use Rattle.judge.specs.Passed.{Terms, got_of, PassesBelow, FailsFirst}
 use Rattle.judge.specs.Sound.{IsEntrySound, SoundBelow, IsUnsound}
 
@@ -40,6 +40,6 @@ IsEntryFault s terms limit q (Some u) = NoCycle (programs_of s) → SoundBelow s
 
 -- the new checked count, or the first term that is wrong
 abbrev pub IsNewCount : Library → List ℤ → ℕ → ℕ → ℕ → NewCount → Type 0
-IsNewCount lib row q limit old (Checked k) = Checks lib row q limit old k
+IsNewCount lib row q limit old (Checked k) = IsNewChecked lib row q limit old k
 IsNewCount lib row q limit old (Wrong k g) =
     FailsFirst lib row q limit k × (g ≡ got_of (outcome lib q (pos k) limit)) × (g ≡ got.OutOfSteps → k < max 8 old)

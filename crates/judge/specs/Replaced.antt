@@ -37,5 +37,5 @@ pub record BringsNothing (s : Store) (limit q : ℕ) (p : Text) (e : Published) 
   pub steps : TakesSameSteps s limit q p checked
 
 -- It is the answer, whatever the terms are for which the store is sound and the program passes.
-abbrev pub IsAnswer : Store → ℕ → ℕ → Text → ℕ → Answer → Type 0
-IsAnswer s limit q p checked a = (terms : Terms) (row : List ℤ) → Sound s terms limit → Passes s terms limit q p row checked → IsJudged s terms limit q p a
+abbrev pub IsAnswerForAnyTerms : Store → ℕ → ℕ → Text → ℕ → Answer → Type 0
+IsAnswerForAnyTerms s limit q p checked a = (terms : Terms) (row : List ℤ) → Sound s terms limit → Passes s terms limit q p row checked → IsJudged s terms limit q p a

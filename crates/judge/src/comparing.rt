@@ -1,7 +1,7 @@
 //! The runs of a name before and after a replacement.
 
 ghost use Rattle.std.specs.Prelude.{◌≡◌, ◌↔◌, IsTrue, IfOk};
-ghost use Rattle.judge.specs.Changes.{runs_at, SameValue, OtherValue, MoreSteps, SameSteps, IsLesser, IsNext};
+ghost use Rattle.judge.specs.Changes.{runs_at, SameValue, OtherValue, NeedsMoreSteps, SameSteps, IsLesser, IsNext};
 
 use checked_numbers::Num;
 use program_store::{Overlay, Proposal, View};
@@ -80,7 +80,7 @@ pub fn has_same_value(runs: &BothRuns) -> bool
 
 /// Whether both runs have values, and the new one takes more steps.
 pub fn takes_more_steps(runs: &BothRuns) -> bool
-    ensures { IsTrue result ↔ MoreSteps runs.now }
+    ensures { IsTrue result ↔ NeedsMoreSteps runs.now }
 {
     match runs.with_old {
         Outcome::Value { steps: was, .. } => match runs.with_new {
@@ -127,7 +127,7 @@ impl Changes {
     /// The changes after one more argument was met.
     pub fn with(self, met: &Changed) -> Changes
         ensures other_value { IsNext (OtherValue met.now.runs) self.other_value met.now result.other_value }
-        ensures more_steps { IsNext (MoreSteps met.now.runs) self.more_steps met.now result.more_steps }
+        ensures more_steps { IsNext (NeedsMoreSteps met.now.runs) self.more_steps met.now result.more_steps }
     {
         let has_other = !has_same_value(&met.runs);
         let has_more = takes_more_steps(&met.runs);

@@ -5,8 +5,8 @@ ghost use Rattle.program_store.specs.Store.{IsStore, checked_at};
 ghost use Rattle.judge.specs.Changes.{AreAllChanges, AreChangesBefore, AreChangesUpTo, IsSoundStore, MayRely, first_run, next_run};
 
 use crate::comparing::{Changed, Changes, CheckedRun, both_runs};
-use crate::passing::number_of;
 use call_graph::first_through;
+use checked_numbers::number_of;
 use program_store::{Proposal, View};
 use seq_calls::{NodeRun, evaluate_alone};
 use std::alloc::{AllocError, Global};

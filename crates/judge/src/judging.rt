@@ -4,7 +4,7 @@ ghost use Rattle.std.specs.Prelude.{IfOk};
 ghost use Rattle.oeis_terms.specs.Table.{row_of, IsBounded, IsTable};
 ghost use Rattle.judge.specs.Sound.{Sound};
 ghost use Rattle.judge.specs.Judged.{IsJudged};
-ghost use Rattle.judge.specs.Kept.{IsKept};
+ghost use Rattle.judge.specs.Kept.{AnswerKeeps};
 ghost use Rattle.judge.specs.One.{HasOneAnswer};
 
 use crate::answer::Answer;
@@ -28,7 +28,7 @@ pub fn judge<V: View>(
     requires sound { Sound (V.store view.now) (row_of terms.now) limit }
     requires bounded { IsBounded terms.now }
     ensures judged { IfOk result (IsJudged (V.store view.now) (row_of terms.now) limit proposal.now.name proposal.now.program) }
-    ensures kept { IfOk result (IsKept (V.store view.now) (row_of terms.now) limit proposal.now.name proposal.now.program) }
+    ensures kept { IfOk result (AnswerKeeps (V.store view.now) (row_of terms.now) limit proposal.now.name proposal.now.program) }
     ensures one { HasOneAnswer (V.store view.now) (row_of terms.now) limit proposal.now.name proposal.now.program }
 {
     let answer = first_answer(alloc, view, terms, limit, proposal)?;

@@ -14,3 +14,4 @@ mod tests;
 pub use answer::{Answer, Got, Unsound};
 pub use judging::judge;
 pub use opening::{CheckError, check_store, check_terms};
+pub use passing::got_of;

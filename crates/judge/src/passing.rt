@@ -1,10 +1,10 @@
 //! Which leading terms a program gives.
 
-ghost use Rattle.std.specs.Prelude.{◌≡◌, ◌≤◌, pos, length, IfOk, MatchOption};
+ghost use Rattle.std.specs.Prelude.{◌≡◌, ◌≤◌, length, IfOk, MatchOption};
 ghost use Rattle.judge.specs.Misses.{got_told, IsFirstMiss, IsNewCount};
 
 use crate::answer::Got;
-use checked_numbers::Num;
+use checked_numbers::{Num, number_of};
 use loda_semantics::FaultKind;
 use program_store::Library;
 use seq_calls::{Evaluator, Outcome};
@@ -33,16 +33,6 @@ fn missed(outcome: Outcome, term: Num) -> Option<Got>
     match got_of(outcome) {
         Got::Value(value) if value.get() == term.get() => None,
         got => Some(got),
-    }
-}
-
-/// The number of an index.
-pub fn number_of(index: u32) -> Num
-    ensures { result ≡ pos index }
-{
-    match Num::new(i128::from(index)) {
-        Some(number) => number,
-        None => unreachable!(),
     }
 }
 

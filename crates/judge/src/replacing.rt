@@ -2,13 +2,14 @@
 
 ghost use Rattle.std.specs.Prelude.{◌≡◌, ◌↔◌, ℕ, ◌<◌, IsTrue, IfOk, Some, pos};
 ghost use Rattle.program_store.specs.Store.{IsStore, published_at};
-ghost use Rattle.judge.specs.Changes.{runs_at, IsSoundStore, MoreSteps, SameSteps};
-ghost use Rattle.judge.specs.Replaced.{HasValue, IsBroken, IsCostlier, IsAnswer, TakesSameSteps, BringsNothing};
+ghost use Rattle.judge.specs.Changes.{runs_at, IsSoundStore, NeedsMoreSteps, SameSteps};
+ghost use Rattle.judge.specs.Replaced.{HasValue, IsBroken, IsCostlier, IsAnswerForAnyTerms, TakesSameSteps, BringsNothing};
 
 use crate::answer::Answer;
 use crate::comparing::{Changed, both_runs, has_same_steps};
 use crate::demanding::changes_of;
-use crate::passing::{got_of, number_of};
+use crate::passing::got_of;
+use checked_numbers::number_of;
 use program_store::{Proposal, Published, View};
 use seq_calls::Outcome;
 use std::alloc::{AllocError, Global};
@@ -32,7 +33,7 @@ fn broken(changed: &Changed) -> Answer
 
 // The answer where the run at an argument takes more steps.
 fn costlier(changed: &Changed) -> Answer
-    requires { MoreSteps changed.now.runs }
+    requires { NeedsMoreSteps changed.now.runs }
     ensures { IsCostlier changed.now result }
 {
     let at = changed.at;
@@ -97,7 +98,7 @@ pub fn replacement_answer<V: View>(
     requires sound { IsSoundStore (V.store view.now) limit }
     requires store { IsStore (V.store view.now) }
     requires published { published_at (V.store view.now) proposal.now.name ≡ Some published.now }
-    ensures { IfOk result (IsAnswer (V.store view.now) limit proposal.now.name proposal.now.program checked) }
+    ensures { IfOk result (IsAnswerForAnyTerms (V.store view.now) limit proposal.now.name proposal.now.program checked) }
 {
     let changes = changes_of(alloc, view, proposal, limit)?;
     if let Some(changed) = &changes.other_value {

@@ -21,22 +21,22 @@ use Rattle.lex_loops.specs.declared.progress.Progress.{Progress}
 use Rattle.lex_loops.specs.declared.stop.Stop.{Stop}
 use Rattle.lex_loops.specs.declared.stop.Stop.TheVariants as stop
 use Rattle.lex_loops.specs.Memories.{memory_of, before, IsWithin, Shortens, Replaces, ending_of}
-use Rattle.lex_loops.specs.State.{open_loop, open_loops, run_from, answered_by, cost_of}
-use Rattle.lex_loops.specs.Steps.{memory_in, loops_in, run_in, IsMark, AreMarks, IsUnderWay, HasRoom, Does, StepsTo, KeepsOn, IsAt, Acts, Takes, marked_anew, Serves, HasLogged}
+use Rattle.lex_loops.specs.State.{open_loop, loops_of_marks, run_from, answered_by, cost_of}
+use Rattle.lex_loops.specs.Steps.{memory_in, loops_in, run_in, IsMark, AreLoopMarks, IsUnderWay, HasRoom, Does, StepsTo, KeepsOn, IsAt, Acts, HasTaken, marked_anew, Serves, HasLogged}
 use Rattle.lex_loops.proofs.Memories.{before-replaces}
 use Rattle.lex_loops.proofs.Runs.{IsSingle, trees-single, goes-on, fails, is-spent, calls, charge-is, charge-spent, at_start, at_end}
 
 -- the open loops stay what they are as the log grows
 pub same-loops : (list : List Instr) (after : List Tree) (top : ℕ) (marks : List Mark) (log log' : List Written) (m m' : Memory)
-    → AreMarks list after top marks → top ≤ length log → (0 < length marks → Replaces log m log' m') → open_loops log' m' marks ≡ open_loops log m marks
+    → AreLoopMarks list after top marks → top ≤ length log → (0 < length marks → Replaces log m log' m') → loops_of_marks log' m' marks ≡ loops_of_marks log m marks
 same-loops list after top [] log log' m m' h le r = refl
 same-loops list after top (mark ∷ marks) log log' m m' h le r =
     let grown : Replaces log m log' m' = r (omega arith) in
     let k : mark.logged ≤ length log = (let l = h.0.logged in omega (arith, l)) in
-    ap (λ (z : Memory). record { body = mark.body; start = mark.start; len = mark.len; memory = z } ∷ open_loops log' m' marks) (before-replaces log log' m m' mark.logged grown k)
+    ap (λ (z : Memory). record { body = mark.body; start = mark.start; len = mark.len; memory = z } ∷ loops_of_marks log' m' marks) (before-replaces log log' m m' mark.logged grown k)
     ∙ ap (λ os. open_loop log m mark ∷ os) (same-loops list (rest_of after) mark.logged marks log log' m m' h.1 k (λ _. grown))
 
-pub marks-more : (list : List Instr) (after : List Tree) (top top' : ℕ) (marks : List Mark) → (0 < length marks → top ≤ top') → AreMarks list after top marks → AreMarks list after top' marks
+pub marks-more : (list : List Instr) (after : List Tree) (top top' : ℕ) (marks : List Mark) → (0 < length marks → top ≤ top') → AreLoopMarks list after top marks → AreLoopMarks list after top' marks
 marks-more list after top top' [] le h = tt
 marks-more list after top top' (mark ∷ marks) le h =
     let within : top ≤ top' = le (omega arith) in
@@ -73,7 +73,7 @@ module _ (i : Instr) (old new : Progress) (h : IsSingle i) (p : Passes old new) 
 
   loops : loops_in new ≡ loops_in old
   loops =
-      ap (λ ms. open_loops new.cells.log.items (memory_in new) (reverse ms)) p.marks
+      ap (λ ms. loops_of_marks new.cells.log.items (memory_in new) (reverse ms)) p.marks
       ∙ same-loops list (rest_of (trees (drop old.at list))) (length old.cells.log.items) (reverse old.marks.items) old.cells.log.items new.cells.log.items (memory_in old) (memory_in new) under.marks (omega arith) replaced
 
   steps : (n left : ℕ) (s : Option Stop) → Does (λ callee. single callee i (memory_in old) n) s left (memory_in new) new.target → StepsTo list old n s left new
@@ -95,11 +95,11 @@ module _ (i : Instr) (old new : Progress) (h : IsSingle i) (p : Passes old new) 
         (balanced-single i (length new.marks.items) (drop (suc old.at) list) h
         (subst (IsBalanced (length new.marks.items)) here (subst (λ ms. IsBalanced (length ms) (drop old.at list)) (sym p.marks) under.balanced)));
     marks =
-        subst (λ a. AreMarks list (rest_of (trees (drop a list))) (length new.cells.log.items) (reverse new.marks.items)) (sym p.at)
-        (subst (λ ms. AreMarks list (rest_of (trees (drop (suc old.at) list))) (length new.cells.log.items) (reverse ms)) (sym p.marks)
+        subst (λ a. AreLoopMarks list (rest_of (trees (drop a list))) (length new.cells.log.items) (reverse new.marks.items)) (sym p.at)
+        (subst (λ ms. AreLoopMarks list (rest_of (trees (drop (suc old.at) list))) (length new.cells.log.items) (reverse ms)) (sym p.marks)
         (marks-more list (rest_of (trees (drop (suc old.at) list))) (length old.cells.log.items) (length new.cells.log.items) (reverse old.marks.items)
         (λ lt. log-grows old.cells.log.items new.cells.log.items (memory_in old) (memory_in new) (replaced lt))
-        (subst (λ ts. AreMarks list (rest_of ts) (length old.cells.log.items) (reverse old.marks.items)) (ap trees here ∙ trees-single i (drop (suc old.at) list) h) under.marks)));
+        (subst (λ ts. AreLoopMarks list (rest_of ts) (length old.cells.log.items) (reverse old.marks.items)) (ap trees here ∙ trees-single i (drop (suc old.at) list) h) under.marks)));
     within = p.within under.within;
   }
 
@@ -187,9 +187,9 @@ acts-open start len old new n left sum at some region values log marks = λ list
     let mark : Mark = record { body = suc old.at; start = start; len = len; logged = length old.cells.log.items } in
     let turned : reverse new.marks.items ≡ mark ∷ reverse old.marks.items = ap reverse marks ∙ reverse-append old.marks.items (mark ∷ []) in
     let opened : loops_in new ≡ record { body = suc old.at; start = start; len = len; memory = memory_in old } ∷ loops_in old =
-    ap (open_loops new.cells.log.items (memory_in new)) turned
-    ∙ ap (λ l. open_loops l (memory_in new) (mark ∷ reverse old.marks.items)) log
-    ∙ ap (λ vs. open_loops old.cells.log.items (memory_of vs) (mark ∷ reverse old.marks.items)) values
+    ap (loops_of_marks new.cells.log.items (memory_in new)) turned
+    ∙ ap (λ l. loops_of_marks l (memory_in new) (mark ∷ reverse old.marks.items)) log
+    ∙ ap (λ vs. loops_of_marks old.cells.log.items (memory_of vs) (mark ∷ reverse old.marks.items)) values
     ∙ ap (λ ws. record { body = suc old.at; start = start; len = len; memory = before ws (memory_in old) } ∷ loops_in old) (drop_all (length old.cells.log.items) old.cells.log.items (omega arith)) in (
       (λ callee.
           at_start callee list old.at start len (loops_in old) (memory_in old) n here
@@ -201,9 +201,9 @@ acts-open start len old new n left sum at some region values log marks = λ list
       record {
         balanced = subst (λ a. IsBalanced (length new.marks.items) (drop a list)) (sym at)
             (subst (λ d. IsBalanced d (drop (suc old.at) list)) (sym (deeper mark)) (subst (IsBalanced (length old.marks.items)) here under.balanced));
-        marks = subst (λ a. AreMarks list (rest_of (trees (drop a list))) (length new.cells.log.items) (reverse new.marks.items)) (sym at)
-            (subst (λ l. AreMarks list (rest_of (trees (drop (suc old.at) list))) (length l) (reverse new.marks.items)) (sym log)
-            (subst (AreMarks list (rest_of (trees (drop (suc old.at) list))) (length old.cells.log.items)) (sym turned) (
+        marks = subst (λ a. AreLoopMarks list (rest_of (trees (drop a list))) (length new.cells.log.items) (reverse new.marks.items)) (sym at)
+            (subst (λ l. AreLoopMarks list (rest_of (trees (drop (suc old.at) list))) (length l) (reverse new.marks.items)) (sym log)
+            (subst (AreLoopMarks list (rest_of (trees (drop (suc old.at) list))) (length old.cells.log.items)) (sym turned) (
               record {
                 follows = refl;
                 balanced = subst (λ d. IsBalanced (suc d) (drop (suc old.at) list)) (sym (length-reverse old.marks.items)) (subst (IsBalanced (length old.marks.items)) here under.balanced);
@@ -211,7 +211,7 @@ acts-open start len old new n left sum at some region values log marks = λ list
                 some = some;
                 region = region;
               },
-              subst (λ ts. AreMarks list ts (length old.cells.log.items) (reverse old.marks.items)) (ap (λ is. rest_of (trees is)) here) under.marks,
+              subst (λ ts. AreLoopMarks list ts (length old.cells.log.items) (reverse old.marks.items)) (ap (λ is. rest_of (trees is)) here) under.marks,
             )));
         within = subst (λ vs. IsWithin (length vs) new.cells.log.items) (sym values) (subst (IsWithin (length old.cells.values.items)) (sym log) under.within);
       },
@@ -230,21 +230,21 @@ acts-open-spent start len old new n none_left = λ list here under. (
 
 -- the end of a loop: the innermost mark, and what follows it
 record Inside (list : List Instr) (old : Progress) (mark : Mark) (outer : List Mark) : Type 0 where
-  loops : loops_in old ≡ open_loop old.cells.log.items (memory_in old) mark ∷ open_loops old.cells.log.items (memory_in old) (reverse outer)
+  loops : loops_in old ≡ open_loop old.cells.log.items (memory_in old) mark ∷ loops_of_marks old.cells.log.items (memory_in old) (reverse outer)
   follows : rest_of (trees (drop mark.body list)) ≡ trees (drop (suc old.at) list)
   is : IsMark list (trees (drop (suc old.at) list)) (length old.cells.log.items) (length (reverse outer)) mark
-  outside : AreMarks list (rest_of (trees (drop (suc old.at) list))) mark.logged (reverse outer)
+  outside : AreLoopMarks list (rest_of (trees (drop (suc old.at) list))) mark.logged (reverse outer)
   balanced : IsBalanced (length outer) (drop (suc old.at) list)
 
 inside : (list : List Instr) (old : Progress) (mark : Mark) (outer : List Mark) → old.marks.items ≡ outer ++ mark ∷ [] → IsAt list old.at LoopEnd → IsUnderWay list old → Inside list old mark outer
 inside list old mark outer marks here under =
     let turned : reverse old.marks.items ≡ mark ∷ reverse outer = ap reverse marks ∙ reverse-append outer (mark ∷ []) in
-    let ones : AreMarks list (trees (drop (suc old.at) list)) (length old.cells.log.items) (mark ∷ reverse outer) =
-    subst (AreMarks list (trees (drop (suc old.at) list)) (length old.cells.log.items)) turned
-    (subst (λ is. AreMarks list (rest_of (trees is)) (length old.cells.log.items) (reverse old.marks.items)) here under.marks) in
+    let ones : AreLoopMarks list (trees (drop (suc old.at) list)) (length old.cells.log.items) (mark ∷ reverse outer) =
+    subst (AreLoopMarks list (trees (drop (suc old.at) list)) (length old.cells.log.items)) turned
+    (subst (λ is. AreLoopMarks list (rest_of (trees is)) (length old.cells.log.items) (reverse old.marks.items)) here under.marks) in
     let deep : length old.marks.items ≡ suc (length outer) = (let e = ap length marks in omega (arith, e, length-append outer (mark ∷ []))) in
     record {
-      loops = ap (open_loops old.cells.log.items (memory_in old)) turned;
+      loops = ap (loops_of_marks old.cells.log.items (memory_in old)) turned;
       follows = ones.0.follows;
       is = ones.0;
       outside = ones.1;
@@ -261,7 +261,7 @@ pub outside-logged : (list : List Instr) (old : Progress) (mark : Mark) (outer :
 outside-logged list old mark outer marks here under = λ os o is.
     let i = inside list old mark outer marks here under in
     let turned : reverse outer ≡ o ∷ reverse os = ap reverse is ∙ reverse-append os (o ∷ []) in
-    let ones : AreMarks list (rest_of (trees (drop (suc old.at) list))) mark.logged (o ∷ reverse os) = subst (AreMarks list (rest_of (trees (drop (suc old.at) list))) mark.logged) turned i.outside in
+    let ones : AreLoopMarks list (rest_of (trees (drop (suc old.at) list))) mark.logged (o ∷ reverse os) = subst (AreLoopMarks list (rest_of (trees (drop (suc old.at) list))) mark.logged) turned i.outside in
     let a = ones.0.logged in
     let b = i.is.logged in
     omega (arith, a, b)
@@ -275,43 +275,43 @@ some-open list old none_open here under =
 abbrev ended : Callee → List Instr → Progress → Mark → List Mark → ℕ → Ending
 ended callee list old mark outer n =
     if is_less mark.len mark.start (memory_in old) (before (drop mark.logged old.cells.log.items) (memory_in old))
-    then run_from callee list mark.body (record { body = mark.body; start = mark.start; len = mark.len; memory = memory_in old } ∷ open_loops old.cells.log.items (memory_in old) (reverse outer)) (memory_in old) n
-    else run_from callee list (suc old.at) (open_loops old.cells.log.items (memory_in old) (reverse outer)) (before (drop mark.logged old.cells.log.items) (memory_in old)) n
+    then run_from callee list mark.body (record { body = mark.body; start = mark.start; len = mark.len; memory = memory_in old } ∷ loops_of_marks old.cells.log.items (memory_in old) (reverse outer)) (memory_in old) n
+    else run_from callee list (suc old.at) (loops_of_marks old.cells.log.items (memory_in old) (reverse outer)) (before (drop mark.logged old.cells.log.items) (memory_in old)) n
 
 at_end_in : (list : List Instr) (old : Progress) (mark : Mark) (outer : List Mark) (n : ℕ) → Inside list old mark outer → IsAt list old.at LoopEnd → (callee : Callee)
     → run_in callee list old n ≡ charge mark.len n (ended callee list old mark outer)
 at_end_in list old mark outer n i here callee =
     ap (λ os. run_from callee list old.at os (memory_in old) n) i.loops
-    ∙ at_end callee list old.at (open_loop old.cells.log.items (memory_in old) mark) (open_loops old.cells.log.items (memory_in old) (reverse outer)) (memory_in old) n here i.follows
+    ∙ at_end callee list old.at (open_loop old.cells.log.items (memory_in old) mark) (loops_of_marks old.cells.log.items (memory_in old) (reverse outer)) (memory_in old) n here i.follows
 
 pub acts-close-spent : (old new : Progress) (mark : Mark) (outer : List Mark) (n : ℕ) → old.marks.items ≡ outer ++ mark ∷ [] → n < mark.len → Acts LoopEnd old n (Some stop.Spent) n new
 acts-close-spent old new mark outer n marks lt = λ list here under.
     ((λ callee. at_end_in list old mark outer n (inside list old mark outer marks here under) here callee ∙ charge-spent mark.len n (ended callee list old mark outer) lt), tt)
 
 -- the loops outside stay what they are in a log that serves them
-loops-shortened : (list : List Instr) (after : List Tree) (len : ℕ) (marks : List Mark) (log log' : List Written) (m : Memory) → AreMarks list after len marks → Shortens len log log' → open_loops log' m marks ≡ open_loops log m marks
+loops-shortened : (list : List Instr) (after : List Tree) (len : ℕ) (marks : List Mark) (log log' : List Written) (m : Memory) → AreLoopMarks list after len marks → Shortens len log log' → loops_of_marks log' m marks ≡ loops_of_marks log m marks
 loops-shortened list after len [] log log' m h s = refl
 loops-shortened list after len (mark ∷ marks) log log' m h s =
     let at : Shortens mark.logged log log' = record {
       long = (let a = h.0.logged in let b = s.long in omega (arith, a, b));
       same = λ k m le. s.same k m (let a = h.0.logged in omega (arith, a, le));
     } in
-    ap (λ (z : Memory). record { body = mark.body; start = mark.start; len = mark.len; memory = z } ∷ open_loops log' m marks) (s.same mark.logged m h.0.logged)
+    ap (λ (z : Memory). record { body = mark.body; start = mark.start; len = mark.len; memory = z } ∷ loops_of_marks log' m marks) (s.same mark.logged m h.0.logged)
     ∙ ap (λ os. open_loop log m mark ∷ os) (loops-shortened list (rest_of after) mark.logged marks log log' m h.1 at)
 
 -- the last mark is the first of the marks turned round
 last-first : (outer : List Mark) (mark : Mark) (marks : List Mark) → reverse outer ≡ mark ∷ marks → outer ≡ reverse marks ++ mark ∷ []
 last-first outer mark marks e = sym (reverse-reverse outer) ∙ ap (λ (ms : List Mark). reverse ms) e ∙ reverse_onto marks mark []
 
-outside-again : (list : List Instr) (after : List Tree) (len : ℕ) (outer marks : List Mark) (log log' : List Written) (m : Memory) → reverse outer ≡ marks → AreMarks list after len marks → Serves outer log log'
-    → open_loops log' m marks ≡ open_loops log m marks
+outside-again : (list : List Instr) (after : List Tree) (len : ℕ) (outer marks : List Mark) (log log' : List Written) (m : Memory) → reverse outer ≡ marks → AreLoopMarks list after len marks → Serves outer log log'
+    → loops_of_marks log' m marks ≡ loops_of_marks log m marks
 outside-again list after len outer [] log log' m is h s = refl
 outside-again list after len outer (mark ∷ marks) log log' m is h s =
     loops-shortened list after mark.logged (mark ∷ marks) log log' m
     (record { follows = h.0.follows; balanced = h.0.balanced; logged = omega arith; some = h.0.some; region = h.0.region }, h.1) (s (reverse marks) mark (last-first outer mark marks is))
 
 -- the marks outside stay of use
-marks-again : (list : List Instr) (after : List Tree) (outer marks : List Mark) (k : ℕ) (log log' : List Written) → reverse outer ≡ marks → Serves outer log log' → AreMarks list after k marks → AreMarks list after (length log') marks
+marks-again : (list : List Instr) (after : List Tree) (outer marks : List Mark) (k : ℕ) (log log' : List Written) → reverse outer ≡ marks → Serves outer log log' → AreLoopMarks list after k marks → AreLoopMarks list after (length log') marks
 marks-again list after outer [] k log log' is s h = tt
 marks-again list after outer (mark ∷ marks) k log log' is s h =
     (record { follows = h.0.follows; balanced = h.0.balanced; logged = (s (reverse marks) mark (last-first outer mark marks is)).long; some = h.0.some; region = h.0.region }, h.1)
@@ -326,11 +326,11 @@ acts-again old new mark outer n left marks le sum less at values log within rema
     let anew : Mark = marked_anew mark (length new.cells.log.items) in
     let m = memory_in old in
     let turned : reverse new.marks.items ≡ anew ∷ reverse outer = ap reverse remarked ∙ reverse-append outer (anew ∷ []) in
-    let os = open_loops old.cells.log.items m (reverse outer) in
+    let os = loops_of_marks old.cells.log.items m (reverse outer) in
     let opened : loops_in new ≡ record { body = mark.body; start = mark.start; len = mark.len; memory = m } ∷ os =
-    ap (open_loops new.cells.log.items (memory_in new)) turned
-    ∙ ap (λ vs. open_loops new.cells.log.items (memory_of vs) (anew ∷ reverse outer)) values
-    ∙ ap (λ ws. record { body = mark.body; start = mark.start; len = mark.len; memory = before ws m } ∷ open_loops new.cells.log.items m (reverse outer)) (drop_all (length new.cells.log.items) new.cells.log.items (omega arith))
+    ap (loops_of_marks new.cells.log.items (memory_in new)) turned
+    ∙ ap (λ vs. loops_of_marks new.cells.log.items (memory_of vs) (anew ∷ reverse outer)) values
+    ∙ ap (λ ws. record { body = mark.body; start = mark.start; len = mark.len; memory = before ws m } ∷ loops_of_marks new.cells.log.items m (reverse outer)) (drop_all (length new.cells.log.items) new.cells.log.items (omega arith))
     ∙ ap (λ z. record { body = mark.body; start = mark.start; len = mark.len; memory = m } ∷ z) (outside-again list (rest_of (trees (drop (suc old.at) list))) mark.logged outer (reverse outer) old.cells.log.items new.cells.log.items m refl i.outside log) in (
       (λ callee.
           at_end_in list old mark outer n i here callee
@@ -345,10 +345,10 @@ acts-again old new mark outer n left marks le sum less at values log within rema
         balanced = subst (λ a. IsBalanced (length new.marks.items) (drop a list)) (sym at)
             (subst (λ d. IsBalanced d (drop mark.body list))
             (let e = ap length remarked in let f : suc (length (reverse outer)) ≡ length new.marks.items = omega (arith, e, length-append outer (anew ∷ []), length-reverse outer) in f) i.is.balanced);
-        marks = subst (λ a. AreMarks list (rest_of (trees (drop a list))) (length new.cells.log.items) (reverse new.marks.items)) (sym at)
-            (subst (AreMarks list (rest_of (trees (drop mark.body list))) (length new.cells.log.items)) (sym turned) (
+        marks = subst (λ a. AreLoopMarks list (rest_of (trees (drop a list))) (length new.cells.log.items) (reverse new.marks.items)) (sym at)
+            (subst (AreLoopMarks list (rest_of (trees (drop mark.body list))) (length new.cells.log.items)) (sym turned) (
               record { follows = refl; balanced = i.is.balanced; logged = omega arith; some = i.is.some; region = i.is.region },
-              subst (λ ts. AreMarks list (rest_of ts) (length new.cells.log.items) (reverse outer)) (sym i.follows)
+              subst (λ ts. AreLoopMarks list (rest_of ts) (length new.cells.log.items) (reverse outer)) (sym i.follows)
                   (marks-again list (rest_of (trees (drop (suc old.at) list))) outer (reverse outer) mark.logged old.cells.log.items new.cells.log.items refl log i.outside),
             ));
         within = within;
@@ -365,15 +365,15 @@ acts-leave old new mark outer n left marks le sum less at memory log popped size
     let m = memory_in old in
     let k = mark.logged in
     let l = old.cells.log.items in
-    let os = open_loops l m (reverse outer) in
+    let os = loops_of_marks l m (reverse outer) in
     let short : length (take k l) ≡ k = length-take-le k l i.is.logged in
     let undone : Replaces (take k l) (before (drop k l) m) l m = record { writes = drop k l; log = sym (take-append-drop k l); memory = refl } in
-    let kept : os ≡ open_loops (take k l) (before (drop k l) m) (reverse outer) =
+    let kept : os ≡ loops_of_marks (take k l) (before (drop k l) m) (reverse outer) =
     same-loops list (rest_of (trees (drop (suc old.at) list))) k (reverse outer) (take k l) l (before (drop k l) m) m i.outside (omega (arith, short)) (λ _. undone) in
     let opened : loops_in new ≡ os =
-    ap (λ ms. open_loops new.cells.log.items (memory_in new) (reverse ms)) popped
-    ∙ ap (λ z. open_loops z (memory_in new) (reverse outer)) log
-    ∙ ap (λ z. open_loops (take k l) z (reverse outer)) memory
+    ap (λ ms. loops_of_marks new.cells.log.items (memory_in new) (reverse ms)) popped
+    ∙ ap (λ z. loops_of_marks z (memory_in new) (reverse outer)) log
+    ∙ ap (λ z. loops_of_marks (take k l) z (reverse outer)) memory
     ∙ sym kept in (
       (λ callee.
           at_end_in list old mark outer n i here callee
@@ -386,9 +386,9 @@ acts-leave old new mark outer n left marks le sum less at memory log popped size
           ∙ ap (λ a. run_from callee list a (loops_in new) (memory_in new) left) (sym at)),
       record {
         balanced = subst (λ a. IsBalanced (length new.marks.items) (drop a list)) (sym at) (subst (λ ms. IsBalanced (length ms) (drop (suc old.at) list)) (sym popped) i.balanced);
-        marks = subst (λ a. AreMarks list (rest_of (trees (drop a list))) (length new.cells.log.items) (reverse new.marks.items)) (sym at)
-            (subst (λ ms. AreMarks list (rest_of (trees (drop (suc old.at) list))) (length new.cells.log.items) (reverse ms)) (sym popped)
-            (subst (λ z. AreMarks list (rest_of (trees (drop (suc old.at) list))) z (reverse outer)) (let e : k ≡ length new.cells.log.items = sym short ∙ ap length (sym log) in e) i.outside));
+        marks = subst (λ a. AreLoopMarks list (rest_of (trees (drop a list))) (length new.cells.log.items) (reverse new.marks.items)) (sym at)
+            (subst (λ ms. AreLoopMarks list (rest_of (trees (drop (suc old.at) list))) (length new.cells.log.items) (reverse ms)) (sym popped)
+            (subst (λ z. AreLoopMarks list (rest_of (trees (drop (suc old.at) list))) z (reverse outer)) (let e : k ≡ length new.cells.log.items = sym short ∙ ap length (sym log) in e) i.outside));
         within = λ j d lt. let here = under.within j d (let e = ap length log in omega (arith, e, short, i.is.logged)) in
             subst (λ z. (get_or new.cells.log.items j d).address < z) (sym size)
             (subst (λ (w : Written). w.address < length old.cells.values.items) (sym (ap (λ z. get_or z j d) log ∙ get_or-take k l j d (let e = ap length log in omega (arith, e, short)))) here);
@@ -399,16 +399,16 @@ acts-leave old new mark outer n left marks le sum less at memory log popped size
 pub takes : (old new : Progress) (v : ℤ) → new.at ≡ old.at → new.marks.items ≡ old.marks.items → memory_in new ≡ set_cell (memory_in old) old.target v
     → (0 < length old.marks.items → Replaces old.cells.log.items (memory_in old) new.cells.log.items (memory_in new))
     → (IsWithin (length old.cells.values.items) old.cells.log.items → IsWithin (length new.cells.values.items) new.cells.log.items)
-    → Takes old v new
+    → HasTaken old v new
 takes old new v at marks memory replaces within = λ list under.
     let replaced = λ (lt : 0 < length (reverse old.marks.items)). replaces (let e = length-reverse old.marks.items in omega (arith, e)) in
     let opened : loops_in new ≡ loops_in old =
-    ap (λ ms. open_loops new.cells.log.items (memory_in new) (reverse ms)) marks
+    ap (λ ms. loops_of_marks new.cells.log.items (memory_in new) (reverse ms)) marks
     ∙ same-loops list (rest_of (trees (drop old.at list))) (length old.cells.log.items) (reverse old.marks.items) old.cells.log.items new.cells.log.items (memory_in old) (memory_in new) under.marks (omega arith) replaced in (
       record {
         balanced = subst (λ a. IsBalanced (length new.marks.items) (drop a list)) (sym at) (subst (λ ms. IsBalanced (length ms) (drop old.at list)) (sym marks) under.balanced);
-        marks = subst (λ a. AreMarks list (rest_of (trees (drop a list))) (length new.cells.log.items) (reverse new.marks.items)) (sym at)
-            (subst (λ ms. AreMarks list (rest_of (trees (drop old.at list))) (length new.cells.log.items) (reverse ms)) (sym marks)
+        marks = subst (λ a. AreLoopMarks list (rest_of (trees (drop a list))) (length new.cells.log.items) (reverse new.marks.items)) (sym at)
+            (subst (λ ms. AreLoopMarks list (rest_of (trees (drop old.at list))) (length new.cells.log.items) (reverse ms)) (sym marks)
             (marks-more list (rest_of (trees (drop old.at list))) (length old.cells.log.items) (length new.cells.log.items) (reverse old.marks.items)
             (λ lt. log-grows old.cells.log.items new.cells.log.items (memory_in old) (memory_in new) (replaced lt)) under.marks));
         within = within under.within;

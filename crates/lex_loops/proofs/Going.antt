@@ -13,9 +13,9 @@ use Rattle.loda_semantics.specs.Exec.{none, Ending, done, Callee, exec}
 use Rattle.lex_loops.specs.declared.progress.Progress.{Progress}
 use Rattle.lex_loops.specs.declared.stop.Stop.{Stop}
 use Rattle.lex_loops.specs.declared.stop.Stop.TheVariants as stop
-use Rattle.lex_loops.specs.State.{State, Advances, open_loops, run_from, cost_of, StopsAs, IsCharged}
+use Rattle.lex_loops.specs.State.{MachineState, Advances, loops_of_marks, run_from, cost_of, StopsAs, IsCharged}
 use Rattle.lex_loops.specs.Steps.{memory_in, loops_in, run_in, answered_in, IsUnderWay, IsAt}
-use Rattle.lex_loops.specs.Machines.{state_of}
+use Rattle.lex_loops.specs.Machines.{machine_state}
 use Rattle.lex_loops.specs.declared.stop.Phase.{Phase}
 
 pub if_ok : {T E : Type 0} {P Q : T → Type 0} (r : Result T E) → ((t : T) → P t → Q t) → IfOk r P → IfOk r Q
@@ -67,7 +67,7 @@ ends list run n le under callee =
     let past : drop run.at list ≡ [] = drop_all run.at list le in
     let closed : length run.marks.items ≡ 0 = subst (IsBalanced (length run.marks.items)) past under.balanced in
     let none_open : run.marks.items ≡ [] = nil_from_length run.marks.items closed in
-    ap (λ ms. run_from callee list run.at (open_loops run.cells.log.items (memory_in run) (reverse ms)) (memory_in run) n) none_open
+    ap (λ ms. run_from callee list run.at (loops_of_marks run.cells.log.items (memory_in run) (reverse ms)) (memory_in run) n) none_open
     ∙ ap (λ is. exec callee (first_tree (trees is)) (memory_in run) n) past
 
 -- a run that has gone on from another
@@ -78,8 +78,8 @@ pub record GoesOn (list : List Instr) (old : Progress) (n : ℕ) (run : Progress
   pub len : length old.cells.values.items ≤ length run.cells.values.items
 
 -- what the run of a machine's list says of the machine
-pub advances : (st : State) (p : Text) (list : List Instr) (run new : Progress) (phase after : Phase) (n left : ℕ) (s : Stop) → state_of p run phase ≡ st → list ≡ instrs st.program
-    → StopsAs (λ callee. run_in callee list run n) s left (λ callee. answered_in callee list new) → Advances st n s left (state_of p new after)
+pub advances : (st : MachineState) (p : Text) (list : List Instr) (run new : Progress) (phase after : Phase) (n left : ℕ) (s : Stop) → machine_state p run phase ≡ st → list ≡ instrs st.program
+    → StopsAs (λ callee. run_in callee list run n) s left (λ callee. answered_in callee list new) → Advances st n s left (machine_state p new after)
 advances st p list run new phase after n left s is same h =
-    subst (λ z. Advances z n s left (state_of p new after)) is
-    (subst (λ l. StopsAs (λ callee. run_in callee l run n) s left (λ callee. answered_in callee l new)) (same ∙ ap (λ (z : State). instrs z.program) (sym is)) h)
+    subst (λ z. Advances z n s left (machine_state p new after)) is
+    (subst (λ l. StopsAs (λ callee. run_in callee l run n) s left (λ callee. answered_in callee l new)) (same ∙ ap (λ (z : MachineState). instrs z.program) (sym is)) h)

@@ -4,12 +4,12 @@ use Rattle.loda_syntax.specs.Programs.{Text, instrs}
 use Rattle.lex_loops.specs.declared.progress.Progress.{Progress}
 use Rattle.lex_loops.specs.declared.stop.Phase.{Phase}
 use Rattle.lex_loops.specs.declared.stop.Phase.TheVariants.{Ready, Waiting, Ended}
-use Rattle.lex_loops.specs.State.{State}
+use Rattle.lex_loops.specs.State.{MachineState}
 use Rattle.lex_loops.specs.Steps.{IsUnderWay, HasRoom}
 
 -- where a machine stands, by its parts
-abbrev pub state_of : Text → Progress → Phase → State
-state_of p run phase = record {
+abbrev pub machine_state : Text → Progress → Phase → MachineState
+machine_state p run phase = record {
   program = p;
   at = run.at;
   cells = run.cells.values.items;

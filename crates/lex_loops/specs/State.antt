@@ -24,7 +24,7 @@ pub record OpenLoop : Type 0 where
 
 -- a machine: its program, the next instruction, the cells, the undo log with the oldest write first, the marks of the
 -- open loops with the innermost first, the phase, and where an answer goes
-pub record State : Type 0 where
+pub record MachineState : Type 0 where
   pub program : Text
   pub at : ℕ
   pub cells : List ℤ
@@ -38,9 +38,9 @@ abbrev pub open_loop : List Written → Memory → Mark → OpenLoop
 open_loop log m mark = record { body = mark.body; start = mark.start; len = mark.len; memory = before (drop mark.logged log) m }
 
 -- those of a list of marks
-abbrev pub open_loops : List Written → Memory → List Mark → List OpenLoop
-open_loops log m [] = []
-open_loops log m (mark ∷ marks) = open_loop log m mark ∷ open_loops log m marks
+abbrev pub loops_of_marks : List Written → Memory → List Mark → List OpenLoop
+loops_of_marks log m [] = []
+loops_of_marks log m (mark ∷ marks) = open_loop log m mark ∷ loops_of_marks log m marks
 
 -- the rest of the innermost loop's body having been run, the rest of the run: the turns to come, and what follows the loop
 abbrev pub finish : Callee → List Instr → List Tree → List OpenLoop → Ending → Ending
@@ -58,15 +58,15 @@ run_from callee list at loops m n =
     finish callee list (rest_of ts) loops (exec callee (first_tree ts) m n)
 
 -- the open loops of a machine
-abbrev pub loops_of : State → List OpenLoop
-loops_of st = open_loops st.log (memory_of st.cells) st.marks
+abbrev pub loops_of : MachineState → List OpenLoop
+loops_of st = loops_of_marks st.log (memory_of st.cells) st.marks
 
 -- the rest of a machine's run with n steps left
-abbrev pub run_on : Callee → State → ℕ → Ending
+abbrev pub run_on : Callee → MachineState → ℕ → Ending
 run_on callee st n = run_from callee (instrs st.program) st.at (loops_of st) (memory_of st.cells) n
 
 -- the same once the call that it waits for was answered with a value
-abbrev pub run_answered : Callee → State → ℤ → ℕ → Ending
+abbrev pub run_answered : Callee → MachineState → ℤ → ℕ → Ending
 run_answered callee st v n = run_from callee (instrs st.program) st.at (loops_of st) (set_cell (memory_of st.cells) st.target v) n
 
 -- a call of q at x with n steps left, which the callee answers, and then the rest
@@ -76,7 +76,7 @@ answered_by q x n next (fault k used, inner) = failed k (n - used) (call q x (fa
 answered_by q x n next (out used, inner) = spent (n - used) (call q x (out used) inner none)
 
 -- The machine stands at the start of the program with this argument: whoever answers the calls, its run is the program's.
-abbrev pub Begins : State → Text → ℤ → Type 0
+abbrev pub Begins : MachineState → Text → ℤ → Type 0
 Begins st p x = (callee : Callee) (n : ℕ) → run_on callee st n ≡ exec callee (tree_of (instrs p)) (memory_with x) n
 
 -- What a stop says of a run, with the steps left and what follows an answer: whoever answers the calls, the run is this.
@@ -87,11 +87,11 @@ StopsAs run (Fault k) left next = (callee : Callee) → run callee ≡ failed k 
 StopsAs run Spent left next = (callee : Callee) → run callee ≡ spent left none
 
 -- The rest of the run from `old` with n steps left is what the stop says, with `left` of them left at the machine `new`.
-abbrev pub Advances : State → ℕ → Stop → ℕ → State → Type 0
+abbrev pub Advances : MachineState → ℕ → Stop → ℕ → MachineState → Type 0
 Advances old n stop left new = StopsAs (λ callee. run_on callee old n) stop left (λ callee. run_answered callee new)
 
 -- The machine has taken its answer: the rest of its run is what was to follow that answer.
-abbrev pub TakesAnswer : State → ℤ → State → Type 0
+abbrev pub TakesAnswer : MachineState → ℤ → MachineState → Type 0
 TakesAnswer old v new = (callee : Callee) (n : ℕ) → run_on callee new n ≡ run_answered callee old v n
 
 -- the steps that an instruction is charged before it acts; the end of a loop, which is charged its loop's region and takes no

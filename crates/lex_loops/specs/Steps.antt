@@ -15,7 +15,7 @@ use Rattle.lex_loops.specs.declared.stop.Stop.{Stop}
 use Rattle.lex_loops.specs.declared.stop.Stop.TheVariants as stop
 use Rattle.lex_loops.specs.declared.cells.Written.{Written}
 use Rattle.lex_loops.specs.Memories.{memory_of, IsWithin, Shortens}
-use Rattle.lex_loops.specs.State.{OpenLoop, open_loops, run_from, StopsAs}
+use Rattle.lex_loops.specs.State.{OpenLoop, loops_of_marks, run_from, StopsAs}
 
 -- the memory of a run
 abbrev pub memory_in : Progress → Memory
@@ -23,7 +23,7 @@ memory_in run = memory_of run.cells.values.items
 
 -- its open loops
 abbrev pub loops_in : Progress → List OpenLoop
-loops_in run = open_loops run.cells.log.items (memory_in run) (reverse run.marks.items)
+loops_in run = loops_of_marks run.cells.log.items (memory_in run) (reverse run.marks.items)
 
 -- the rest of the run with n steps left
 abbrev pub run_in : Callee → List Instr → Progress → ℕ → Ending
@@ -43,14 +43,14 @@ pub record IsMark (list : List Instr) (after : List Tree) (top depth : ℕ) (mar
   pub region : mark.start + mark.len ≤ 4096
 
 -- the marks of the open loops, the innermost first
-abbrev pub AreMarks : List Instr → List Tree → ℕ → List Mark → Type 0
-AreMarks list after top [] = Unit {0}
-AreMarks list after top (mark ∷ marks) = IsMark list after top (length marks) mark × AreMarks list (rest_of after) mark.logged marks
+abbrev pub AreLoopMarks : List Instr → List Tree → ℕ → List Mark → Type 0
+AreLoopMarks list after top [] = Unit {0}
+AreLoopMarks list after top (mark ∷ marks) = IsMark list after top (length marks) mark × AreLoopMarks list (rest_of after) mark.logged marks
 
 -- A run on its way through a list: as many loops are open as are ended from here on, and the marks are theirs.
 pub record IsUnderWay (list : List Instr) (run : Progress) : Type 0 where
   pub balanced : IsBalanced (length run.marks.items) (drop run.at list)
-  pub marks : AreMarks list (rest_of (trees (drop run.at list))) (length run.cells.log.items) (reverse run.marks.items)
+  pub marks : AreLoopMarks list (rest_of (trees (drop run.at list))) (length run.cells.log.items) (reverse run.marks.items)
   pub within : IsWithin (length run.cells.values.items) run.cells.log.items
 
 -- room for an answer
@@ -125,5 +125,5 @@ pub record IsAtStart (x : ℤ) (run : Progress) : Type 0 where
   pub marks : run.marks.items ≡ []
 
 -- The run has taken an answer, in whatever list it is on its way through.
-abbrev pub Takes : Progress → ℤ → Progress → Type 0
-Takes old v new = (list : List Instr) → IsUnderWay list old → IsUnderWay list new × ((callee : Callee) (n : ℕ) → run_in callee list new n ≡ answered_in callee list old v n)
+abbrev pub HasTaken : Progress → ℤ → Progress → Type 0
+HasTaken old v new = (list : List Instr) → IsUnderWay list old → IsUnderWay list new × ((callee : Callee) (n : ℕ) → run_in callee list new n ≡ answered_in callee list old v n)

@@ -1,4 +1,5 @@
-// The cells, and what writes replaced.
+//! The cells, and what writes replaced.
+
 ghost use Rattle.std.specs.Prelude.{◌≡◌, ◌≤◌, ◌<◌, int_lt, ◌+◌, ◌++◌, ◌∷◌, [], ℤ, pos, ℕ, Ok, Some, vec_len, vec_capacity, IfOk, OnOk, OnErr, IsTrue, ◌-◌, if◌then◌else◌, length, take, drop, replicate, false};
 ghost use Rattle.loda_semantics.specs.Memory.{set_cell, clear_cells, address as address_of, source_value, cell_at, is_less};
 ghost use Rattle.loda_syntax.specs.WellFormed.{IsTarget, IsSource};

@@ -1,4 +1,4 @@
-// One program up to its next call.
+//! One program up to its next call.
 #![tactic(auto)]
 
 mod cells;

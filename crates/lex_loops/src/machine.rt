@@ -1,4 +1,5 @@
-// A run of one program.
+//! A run of one program.
+
 ghost use Rattle.std.specs.Prelude.{◌≡◌, ◌≤◌, IfOk, OnErr};
 ghost use Rattle.lex_loops.specs.State.{Begins, Advances, TakesAnswer, IsCharged, run_on, phase_after};
 ghost use Rattle.loda_syntax.specs.Programs.{instrs};
@@ -24,12 +25,12 @@ pub struct Machine {
 }
 
 impl Model for Machine {
-    ghost use Rattle.lex_loops.specs.State.{State};
-    ghost use Rattle.lex_loops.specs.Machines.{state_of, IsSound};
+    ghost use Rattle.lex_loops.specs.State.{MachineState};
+    ghost use Rattle.lex_loops.specs.Machines.{machine_state, IsSound};
 
-    ghost Value = { State };
+    ghost Value = { MachineState };
 
-    ghost view = { λ m. state_of m.of.value m.run m.phase };
+    ghost view = { λ m. machine_state m.of.value m.run m.phase };
 
     ghost invariant = { λ m. IsSound m.of.value m.run m.phase };
 }

@@ -1,4 +1,4 @@
-// The loops that are open.
+//! The loops that are open.
 
 /// An open loop, as it was when its iteration began.
 #[derive(Clone, Copy, Debug, PartialEq, Eq)]

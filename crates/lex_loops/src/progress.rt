@@ -1,4 +1,5 @@
-// How far a run has come, and what its next instruction does.
+//! How far a run has come, and what its next instruction does.
+
 ghost use Rattle.std.specs.Prelude.{◌≡◌, ◌≤◌, ◌<◌, ◌+◌, ◌∷◌, ◌++◌, [], max, if◌then◌else◌, ◌==◌, IfOk, OnErr, IfNone, Some, ℕ, length, take, drop, vec_len, vec_capacity};
 ghost use Rattle.loda_syntax.specs.WellFormed.{IsProgram, IsInstr, IsTarget, IsSource};
 
@@ -26,7 +27,7 @@ pub struct Progress {
 impl Progress {
     ghost use Rattle.lex_loops.specs.Memories.{before, IsWithin};
     ghost use Rattle.lex_loops.specs.State.{IsCharged, StopsAs, cost_of};
-    ghost use Rattle.lex_loops.specs.Steps.{memory_in, run_in, answered_in, marked_anew, Serves, HasLogged, IsAtStart, IsUnderWay, HasRoom, Takes, IsAtEnd, IsOwn, Steps, KeepsOn, Acts};
+    ghost use Rattle.lex_loops.specs.Steps.{memory_in, run_in, answered_in, marked_anew, Serves, HasLogged, IsAtStart, IsUnderWay, HasRoom, HasTaken, IsAtEnd, IsOwn, Steps, KeepsOn, Acts};
 
     /// The start of a run, with the argument in cell 0.
     pub fn start(alloc: Global, arg: Num) -> Result<Progress, AllocError>
@@ -61,7 +62,7 @@ impl Progress {
     /// Takes the answer to a call.
     pub fn answer(&mut self, value: Num)
         requires { HasRoom self.old }
-        ensures takes { Takes self.old value self.new }
+        ensures takes { HasTaken self.old value self.new }
         ensures len { length self.new.cells.values.items ≡ length self.old.cells.values.items }
     {
         let logged = !self.marks.is_empty();

@@ -1,4 +1,5 @@
-// Where a run stops, and what may be asked of a machine.
+//! Where a run stops, and what may be asked of a machine.
+
 use checked_numbers::Num;
 use loda_semantics::FaultKind;
 

@@ -7,7 +7,7 @@ use Rattle.std.proofs.lemmas.List.Elements.{All-nil, All-cons, All-head, All-tai
 use Rattle.std.proofs.lemmas.Bool.Decides.{Decides-eqb}
 use Rattle.loda_io.specs.declared.ReadError.{ReadError}
 use Rattle.loda_io.specs.declared.ReadError.TheVariants.{FileTooLarge, LineTooLong}
-use Rattle.loda_io.specs.Shelf.{Spot, first_fault, limit, line_limit, beginning, unless, checked}
+use Rattle.loda_io.specs.Shelf.{Spot, first_past_limit, file_limit, line_limit, beginning, file_unless, checked}
 use Rattle.loda_io.specs.Whole.{IsShort, AreShort, size_of, file_lines, IsWhole, IsFirstTooLong, IsTooLarge}
 use Rattle.loda_io.proofs.Faults.{IfFault, first_faults}
 
@@ -88,10 +88,10 @@ next_byte : Spot → Spot
 next_byte s = record { at = s.at + 1; line = s.line; column = s.column + 1 }
 
 data Step (s : Spot) (b : ℕ) (bs : List ℕ) : Type 0 where
-  full : s.at ≡ limit → first_fault s (b ∷ bs) ≡ Some (FileTooLarge (limit + 1)) → Step s b bs
-  ended : (s.at ≡ limit → ⊥) → (b == 10) ≡ true → first_fault s (b ∷ bs) ≡ first_fault (next_line s) bs → Step s b bs
-  past : (s.at ≡ limit → ⊥) → (b == 10) ≡ false → s.column ≡ line_limit → first_fault s (b ∷ bs) ≡ Some (LineTooLong s.line) → Step s b bs
-  longer : (s.at ≡ limit → ⊥) → (b == 10) ≡ false → (s.column ≡ line_limit → ⊥) → first_fault s (b ∷ bs) ≡ first_fault (next_byte s) bs → Step s b bs
+  full : s.at ≡ file_limit → first_past_limit s (b ∷ bs) ≡ Some (FileTooLarge (file_limit + 1)) → Step s b bs
+  ended : (s.at ≡ file_limit → ⊥) → (b == 10) ≡ true → first_past_limit s (b ∷ bs) ≡ first_past_limit (next_line s) bs → Step s b bs
+  past : (s.at ≡ file_limit → ⊥) → (b == 10) ≡ false → s.column ≡ line_limit → first_past_limit s (b ∷ bs) ≡ Some (LineTooLong s.line) → Step s b bs
+  longer : (s.at ≡ file_limit → ⊥) → (b == 10) ≡ false → (s.column ≡ line_limit → ⊥) → first_past_limit s (b ∷ bs) ≡ first_past_limit (next_byte s) bs → Step s b bs
 
 is : (x y : ℕ) → (x == y) ≡ true → x ≡ y
 is x y e = (Decides-eqb x y).0 e
@@ -99,36 +99,36 @@ is x y e = (Decides-eqb x y).0 e
 isnt : (x y : ℕ) → (x == y) ≡ false → x ≡ y → ⊥
 isnt x y e same = let yes = (Decides-eqb x y).1 same in let no : ⊥ = cc in no
 
-column_test : (t : Bool) (s : Spot) (b : ℕ) (bs : List ℕ) → (s.column == line_limit) ≡ t → (s.at == limit) ≡ false → (b == 10) ≡ false → Step s b bs
-unfolding first_fault next_byte
-column_test true s b bs c a l = past (isnt s.at limit a) l (is s.column line_limit c) (rw a (rw l (rw c refl)))
-column_test false s b bs c a l = longer (isnt s.at limit a) l (isnt s.column line_limit c) (rw a (rw l (rw c refl)))
+column_test : (t : Bool) (s : Spot) (b : ℕ) (bs : List ℕ) → (s.column == line_limit) ≡ t → (s.at == file_limit) ≡ false → (b == 10) ≡ false → Step s b bs
+unfolding first_past_limit next_byte
+column_test true s b bs c a l = past (isnt s.at file_limit a) l (is s.column line_limit c) (rw a (rw l (rw c refl)))
+column_test false s b bs c a l = longer (isnt s.at file_limit a) l (isnt s.column line_limit c) (rw a (rw l (rw c refl)))
 
-feed_test : (t : Bool) (s : Spot) (b : ℕ) (bs : List ℕ) → (b == 10) ≡ t → (s.at == limit) ≡ false → Step s b bs
-unfolding first_fault next_line
-feed_test true s b bs l a = ended (isnt s.at limit a) l (rw a (rw l refl))
+feed_test : (t : Bool) (s : Spot) (b : ℕ) (bs : List ℕ) → (b == 10) ≡ t → (s.at == file_limit) ≡ false → Step s b bs
+unfolding first_past_limit next_line
+feed_test true s b bs l a = ended (isnt s.at file_limit a) l (rw a (rw l refl))
 feed_test false s b bs l a = column_test (s.column == line_limit) s b bs refl a l
 
-size_test : (t : Bool) (s : Spot) (b : ℕ) (bs : List ℕ) → (s.at == limit) ≡ t → Step s b bs
-unfolding first_fault
-size_test true s b bs a = full (is s.at limit a) (rw a refl)
+size_test : (t : Bool) (s : Spot) (b : ℕ) (bs : List ℕ) → (s.at == file_limit) ≡ t → Step s b bs
+unfolding first_past_limit
+size_test true s b bs a = full (is s.at file_limit a) (rw a refl)
 size_test false s b bs a = feed_test (b == 10) s b bs refl a
 
 step_of : (s : Spot) (b : ℕ) (bs : List ℕ) → Step s b bs
-step_of s b bs = size_test (s.at == limit) s b bs refl
+step_of s b bs = size_test (s.at == file_limit) s b bs refl
 
 -- a spot within the limits, behind these bytes of its line
 pub record IsBehind (s : Spot) (line : List ℕ) : Type 0 where
-  pub at : s.at ≤ limit
+  pub at : s.at ≤ file_limit
   pub here : s.column ≡ length line
   pub column : s.column ≤ line_limit
   pub start : length line ≤ s.at
 
-behind_line : (s : Spot) (line : List ℕ) → IsBehind s line → (s.at ≡ limit → ⊥) → IsBehind (next_line s) []
+behind_line : (s : Spot) (line : List ℕ) → IsBehind s line → (s.at ≡ file_limit → ⊥) → IsBehind (next_line s) []
 unfolding next_line
 behind_line s line h a = record { at = omega (arith, h.at, a); here = refl; column = omega arith; start = omega arith }
 
-behind_byte : (s : Spot) (line : List ℕ) (b : ℕ) → IsBehind s line → (s.at ≡ limit → ⊥) → (s.column ≡ line_limit → ⊥) → IsBehind (next_byte s) (line ++ b ∷ [])
+behind_byte : (s : Spot) (line : List ℕ) (b : ℕ) → IsBehind s line → (s.at ≡ file_limit → ⊥) → (s.column ≡ line_limit → ⊥) → IsBehind (next_byte s) (line ++ b ∷ [])
 unfolding next_byte
 behind_byte s line b h a c =
     let len = length-append line (b ∷ []) in
@@ -137,11 +137,11 @@ behind_byte s line b h a c =
 -- ---- no fault
 
 Fits : Spot → List ℕ → List ℕ → Type 0
-Fits s line bs = (s.at + length bs ≤ limit) × AreShort (lines_from line bs)
+Fits s line bs = (s.at + length bs ≤ file_limit) × AreShort (lines_from line bs)
 
 fits_step : (s : Spot) (line : List ℕ) (b : ℕ) (bs : List ℕ) → IsBehind s line → Step s b bs
-    → ((t : Spot) (l : List ℕ) → IsBehind t l → first_fault t bs ≡ None → Fits t l bs)
-    → first_fault s (b ∷ bs) ≡ None → Fits s line (b ∷ bs)
+    → ((t : Spot) (l : List ℕ) → IsBehind t l → first_past_limit t bs ≡ None → Fits t l bs)
+    → first_past_limit s (b ∷ bs) ≡ None → Fits s line (b ∷ bs)
 unfolding Fits next_line next_byte
 fits_step s line b bs h (full at e) rest none = absurd cc
 fits_step s line b bs h (ended a l e) rest none =
@@ -152,14 +152,14 @@ fits_step s line b bs h (longer a l c e) rest none =
     let r = rest (next_byte s) (line ++ b ∷ []) (behind_byte s line b h a c) (sym e ∙ none) in
     (omega (arith, r.0), subst (λ (t : List (List ℕ)). AreShort t) (sym (lines_longer line b bs l)) r.1)
 
-fits_none : (bs : List ℕ) (s : Spot) (line : List ℕ) → IsBehind s line → first_fault s bs ≡ None → Fits s line bs
+fits_none : (bs : List ℕ) (s : Spot) (line : List ℕ) → IsBehind s line → first_past_limit s bs ≡ None → Fits s line bs
 unfolding Fits lines_from
 fits_none [] s line h none = (omega (arith, h.at), All-cons IsShort line [] (omega (arith, h.here, h.column)) (All-nil IsShort))
 fits_none (b ∷ bs) s line h none = fits_step s line b bs h (step_of s b bs) (fits_none bs) none
 
 none_step : (s : Spot) (line : List ℕ) (b : ℕ) (bs : List ℕ) → IsBehind s line → Step s b bs
-    → ((t : Spot) (l : List ℕ) → IsBehind t l → Fits t l bs → first_fault t bs ≡ None)
-    → Fits s line (b ∷ bs) → first_fault s (b ∷ bs) ≡ None
+    → ((t : Spot) (l : List ℕ) → IsBehind t l → Fits t l bs → first_past_limit t bs ≡ None)
+    → Fits s line (b ∷ bs) → first_past_limit s (b ∷ bs) ≡ None
 unfolding Fits next_line next_byte
 none_step s line b bs h (full at e) rest fits = absurd (omega (arith, at, fits.0))
 none_step s line b bs h (ended a l e) rest fits =
@@ -174,8 +174,8 @@ none_step s line b bs h (past a l c e) rest fits =
 none_step s line b bs h (longer a l c e) rest fits =
     e ∙ rest (next_byte s) (line ++ b ∷ []) (behind_byte s line b h a c) (omega (arith, fits.0), subst (λ (t : List (List ℕ)). AreShort t) (lines_longer line b bs l) fits.1)
 
-none_fits : (bs : List ℕ) (s : Spot) (line : List ℕ) → IsBehind s line → Fits s line bs → first_fault s bs ≡ None
-unfolding first_fault
+none_fits : (bs : List ℕ) (s : Spot) (line : List ℕ) → IsBehind s line → Fits s line bs → first_past_limit s bs ≡ None
+unfolding first_past_limit
 none_fits [] s line h fits = refl
 none_fits (b ∷ bs) s line h fits = none_step s line b bs h (step_of s b bs) (none_fits bs) fits
 
@@ -190,7 +190,7 @@ pub record IsLongFrom (start number : ℕ) (lines : List (List ℕ)) (n : ℕ) :
   pub numbered : n ≡ number + length before
   pub short : AreShort before
   pub long : line_limit < length text
-  pub first : start + size_of before + line_limit < limit
+  pub first : start + size_of before + line_limit < file_limit
 
 one_later : (start number n : ℕ) (line : List ℕ) (lines : List (List ℕ)) → length line ≤ line_limit
     → IsLongFrom (start + length line + 1) (number + 1) lines n → IsLongFrom start number (line ∷ lines) n
@@ -209,7 +209,7 @@ tail_of : {A : Type 0} (x y : A) (xs ys : List A) → x ∷ xs ≡ y ∷ ys → 
 tail_of x y xs ys e = (cc, cc)
 
 one_sooner : (start number n : ℕ) (line : List ℕ) (lines before : List (List ℕ)) (text : List ℕ) (after : List (List ℕ)) → length line ≤ line_limit
-    → line ∷ lines ≡ before ++ text ∷ after → n ≡ number + length before → AreShort before → line_limit < length text → start + size_of before + line_limit < limit
+    → line ∷ lines ≡ before ++ text ∷ after → n ≡ number + length before → AreShort before → line_limit < length text → start + size_of before + line_limit < file_limit
     → IsLongFrom (start + length line + 1) (number + 1) lines n
 one_sooner start number n line lines [] text after fits cut numbered short long first =
     let e = tail_of line text lines after cut in
@@ -240,8 +240,8 @@ at_first number n first others (l ∷ before) text after long cut numbered short
     absurd (omega (arith, long, len, head))
 
 -- where the file's limit has been reached, no line is too long before it
-none_left : (start : ℕ) (line first : List ℕ) (others before : List (List ℕ)) (text : List ℕ) (after : List (List ℕ)) → start + length line ≡ limit → length line ≤ line_limit
-    → length line ≤ length first → first ∷ others ≡ before ++ text ∷ after → start + size_of before + line_limit < limit → ⊥
+none_left : (start : ℕ) (line first : List ℕ) (others before : List (List ℕ)) (text : List ℕ) (after : List (List ℕ)) → start + length line ≡ file_limit → length line ≤ line_limit
+    → length line ≤ length first → first ∷ others ≡ before ++ text ∷ after → start + size_of before + line_limit < file_limit → ⊥
 none_left start line first others [] text after there small least cut early = omega (arith, there, small, early)
 none_left start line first others (l ∷ before) text after there small least cut early =
     let e = tail_of first l others (before ++ text ∷ after) cut in
@@ -253,8 +253,8 @@ none_there [] text after e = let no : ⊥ = cc in no
 none_there (l ∷ before) text after e = let no : ⊥ = cc in no
 
 long_step : (s : Spot) (line : List ℕ) (b : ℕ) (bs : List ℕ) (start n : ℕ) → IsBehind s line → start + length line ≡ s.at → Step s b bs
-    → ((t : Spot) (l : List ℕ) (from : ℕ) → IsBehind t l → from + length l ≡ t.at → first_fault t bs ≡ Some (LineTooLong n) → IsLongFrom from t.line (lines_from l bs) n)
-    → first_fault s (b ∷ bs) ≡ Some (LineTooLong n) → IsLongFrom start s.line (lines_from line (b ∷ bs)) n
+    → ((t : Spot) (l : List ℕ) (from : ℕ) → IsBehind t l → from + length l ≡ t.at → first_past_limit t bs ≡ Some (LineTooLong n) → IsLongFrom from t.line (lines_from l bs) n)
+    → first_past_limit s (b ∷ bs) ≡ Some (LineTooLong n) → IsLongFrom start s.line (lines_from line (b ∷ bs)) n
 unfolding next_line next_byte
 long_step s line b bs start n h here (full at e) rest fault = absurd cc
 long_step s line b bs start n h here (ended a l e) rest fault =
@@ -280,14 +280,14 @@ long_step s line b bs start n h here (longer a l c e) rest fault =
     subst (λ (t : List (List ℕ)). IsLongFrom start s.line t n) (sym (lines_longer line b bs l)) k
 
 long_from : (bs : List ℕ) (n : ℕ) (s : Spot) (line : List ℕ) (start : ℕ) → IsBehind s line → start + length line ≡ s.at
-    → first_fault s bs ≡ Some (LineTooLong n) → IsLongFrom start s.line (lines_from line bs) n
-unfolding first_fault
+    → first_past_limit s bs ≡ Some (LineTooLong n) → IsLongFrom start s.line (lines_from line bs) n
+unfolding first_past_limit
 long_from [] n s line start h here fault = absurd cc
 long_from (b ∷ bs) n s line start h here fault = long_step s line b bs start n h here (step_of s b bs) (long_from bs n) fault
 
 from_step : (s : Spot) (line : List ℕ) (b : ℕ) (bs : List ℕ) (start n : ℕ) → IsBehind s line → start + length line ≡ s.at → Step s b bs
-    → ((t : Spot) (l : List ℕ) (from : ℕ) → IsBehind t l → from + length l ≡ t.at → IsLongFrom from t.line (lines_from l bs) n → first_fault t bs ≡ Some (LineTooLong n))
-    → IsLongFrom start s.line (lines_from line (b ∷ bs)) n → first_fault s (b ∷ bs) ≡ Some (LineTooLong n)
+    → ((t : Spot) (l : List ℕ) (from : ℕ) → IsBehind t l → from + length l ≡ t.at → IsLongFrom from t.line (lines_from l bs) n → first_past_limit t bs ≡ Some (LineTooLong n))
+    → IsLongFrom start s.line (lines_from line (b ∷ bs)) n → first_past_limit s (b ∷ bs) ≡ Some (LineTooLong n)
 unfolding next_line next_byte
 from_step s line b bs start n h here (full at e) rest k =
     let f = has_first (b ∷ bs) line in
@@ -307,7 +307,7 @@ from_step s line b bs start n h here (longer a l c e) rest k =
     (subst (λ (t : List (List ℕ)). IsLongFrom start s.line t n) (lines_longer line b bs l) k)
 
 from_long : (bs : List ℕ) (n : ℕ) (s : Spot) (line : List ℕ) (start : ℕ) → IsBehind s line → start + length line ≡ s.at
-    → IsLongFrom start s.line (lines_from line bs) n → first_fault s bs ≡ Some (LineTooLong n)
+    → IsLongFrom start s.line (lines_from line bs) n → first_past_limit s bs ≡ Some (LineTooLong n)
 unfolding lines_from
 from_long [] n s line start h here k =
     let later = one_sooner start s.line n line [] k.before k.text k.after (omega (arith, h.here, h.column)) k.cut k.numbered k.short k.long k.first in
@@ -317,16 +317,16 @@ from_long (b ∷ bs) n s line start h here k = from_step s line b bs start n h h
 -- ---- a file that is too large
 
 large_step : (s : Spot) (line : List ℕ) (b : ℕ) (bs : List ℕ) (z : ℕ) → IsBehind s line → Step s b bs
-    → ((t : Spot) (l : List ℕ) → IsBehind t l → first_fault t bs ≡ Some (FileTooLarge z) → limit < t.at + length bs)
-    → first_fault s (b ∷ bs) ≡ Some (FileTooLarge z) → limit < s.at + length (b ∷ bs)
+    → ((t : Spot) (l : List ℕ) → IsBehind t l → first_past_limit t bs ≡ Some (FileTooLarge z) → file_limit < t.at + length bs)
+    → first_past_limit s (b ∷ bs) ≡ Some (FileTooLarge z) → file_limit < s.at + length (b ∷ bs)
 unfolding next_line next_byte
 large_step s line b bs z h (full at e) rest fault = omega (arith, at)
 large_step s line b bs z h (ended a l e) rest fault = omega (arith, rest (next_line s) [] (behind_line s line h a) (sym e ∙ fault))
 large_step s line b bs z h (past a l c e) rest fault = absurd cc
 large_step s line b bs z h (longer a l c e) rest fault = omega (arith, rest (next_byte s) (line ++ b ∷ []) (behind_byte s line b h a c) (sym e ∙ fault))
 
-large_size : (bs : List ℕ) (z : ℕ) (s : Spot) (line : List ℕ) → IsBehind s line → first_fault s bs ≡ Some (FileTooLarge z) → limit < s.at + length bs
-unfolding first_fault
+large_size : (bs : List ℕ) (z : ℕ) (s : Spot) (line : List ℕ) → IsBehind s line → first_past_limit s bs ≡ Some (FileTooLarge z) → file_limit < s.at + length bs
+unfolding first_past_limit
 large_size [] z s line h fault = absurd cc
 large_size (b ∷ bs) z s line h fault = large_step s line b bs z h (step_of s b bs) (large_size bs z) fault
 
@@ -335,11 +335,11 @@ large_size (b ∷ bs) z s line h fault = large_step s line b bs z h (step_of s b
 behind_none : IsBehind beginning []
 behind_none = record { at = omega arith; here = refl; column = omega arith; start = omega arith }
 
-unless_none : (o : Option ReadError) (file : List ℕ) → unless o file ≡ Ok file → o ≡ None
+unless_none : (o : Option ReadError) (file : List ℕ) → file_unless o file ≡ Ok file → o ≡ None
 unless_none None file e = refl
 unless_none (Some x) file e = absurd cc
 
-unless_some : (o : Option ReadError) (file : List ℕ) (x : ReadError) → unless o file ≡ Err x → o ≡ Some x
+unless_some : (o : Option ReadError) (file : List ℕ) (x : ReadError) → file_unless o file ≡ Err x → o ≡ Some x
 unless_some None file x e = absurd cc
 unless_some (Some y) file x e = cc
 
@@ -347,14 +347,14 @@ pub checked-whole : (file : List ℕ) → (checked file ≡ Ok file → IsWhole 
 unfolding Fits
 checked-whole file = (
   λ e.
-      let fits = fits_none file beginning [] behind_none (unless_none (first_fault beginning file) file e) in
+      let fits = fits_none file beginning [] behind_none (unless_none (first_past_limit beginning file) file e) in
       record { size = omega (arith, fits.0); lines = subst (λ (t : List (List ℕ)). AreShort t) (lines_from-is file) fits.1 },
   λ w.
-      ap (λ (o : Option ReadError). unless o file)
+      ap (λ (o : Option ReadError). file_unless o file)
       (none_fits file beginning [] behind_none (omega (arith, w.size), subst (λ (t : List (List ℕ)). AreShort t) (sym (lines_from-is file)) w.lines)),
 )
 
-long_fault : (file : List ℕ) (n : ℕ) → IsFirstTooLong file n → first_fault beginning file ≡ Some (LineTooLong n)
+long_fault : (file : List ℕ) (n : ℕ) → IsFirstTooLong file n → first_past_limit beginning file ≡ Some (LineTooLong n)
 long_fault file n w =
     from_long file n beginning [] 0 behind_none refl
     (record {
@@ -368,7 +368,7 @@ long_fault file n w =
       first = omega (arith, w.first);
     })
 
-fault_long : (file : List ℕ) (n : ℕ) → first_fault beginning file ≡ Some (LineTooLong n) → IsFirstTooLong file n
+fault_long : (file : List ℕ) (n : ℕ) → first_past_limit beginning file ≡ Some (LineTooLong n) → IsFirstTooLong file n
 fault_long file n e =
     let k = long_from file n beginning [] 0 behind_none refl e in
     record {
@@ -384,27 +384,27 @@ fault_long file n e =
 
 pub checked-long : (file : List ℕ) (n : ℕ) → (checked file ≡ Err (LineTooLong n) → IsFirstTooLong file n) × (IsFirstTooLong file n → checked file ≡ Err (LineTooLong n))
 checked-long file n = (
-  λ e. fault_long file n (unless_some (first_fault beginning file) file (LineTooLong n) e),
-  λ w. ap (λ (o : Option ReadError). unless o file) (long_fault file n w),
+  λ e. fault_long file n (unless_some (first_past_limit beginning file) file (LineTooLong n) e),
+  λ w. ap (λ (o : Option ReadError). file_unless o file) (long_fault file n w),
 )
 
-large_case : (file : List ℕ) (o : Option ReadError) → first_fault beginning file ≡ o → IfFault o → IsTooLarge file → unless o file ≡ Err (FileTooLarge (limit + 1))
+large_case : (file : List ℕ) (o : Option ReadError) → first_past_limit beginning file ≡ o → IfFault o → IsTooLarge file → file_unless o file ≡ Err (FileTooLarge (file_limit + 1))
 unfolding Fits
 large_case file None e f w = let fits = fits_none file beginning [] behind_none e in absurd (omega (arith, fits.0, w.size))
 large_case file (Some (FileTooLarge size)) e f w = ap (λ (z : ℕ). Err (FileTooLarge z)) f
 large_case file (Some (LineTooLong n)) e f w = absurd (w.no_line n (fault_long file n e))
 large_case file (Some x) e f w = absurd f
 
-two_faults : (file : List ℕ) (z n : ℕ) → first_fault beginning file ≡ Some (FileTooLarge z) → first_fault beginning file ≡ Some (LineTooLong n) → ⊥
+two_faults : (file : List ℕ) (z n : ℕ) → first_past_limit beginning file ≡ Some (FileTooLarge z) → first_past_limit beginning file ≡ Some (LineTooLong n) → ⊥
 two_faults file z n e f = let no : ⊥ = cc in no
 
-pub checked-large : (file : List ℕ) → (checked file ≡ Err (FileTooLarge (limit + 1)) → IsTooLarge file) × (IsTooLarge file → checked file ≡ Err (FileTooLarge (limit + 1)))
+pub checked-large : (file : List ℕ) → (checked file ≡ Err (FileTooLarge (file_limit + 1)) → IsTooLarge file) × (IsTooLarge file → checked file ≡ Err (FileTooLarge (file_limit + 1)))
 checked-large file = (
   λ e.
-      let fault = unless_some (first_fault beginning file) file (FileTooLarge (limit + 1)) e in
+      let fault = unless_some (first_past_limit beginning file) file (FileTooLarge (file_limit + 1)) e in
       record {
-        size = omega (arith, large_size file (limit + 1) beginning [] behind_none fault);
-        no_line = λ n w. two_faults file (limit + 1) n fault (long_fault file n w);
+        size = omega (arith, large_size file (file_limit + 1) beginning [] behind_none fault);
+        no_line = λ n w. two_faults file (file_limit + 1) n fault (long_fault file n w);
       },
-  λ w. large_case file (first_fault beginning file) refl (first_faults file beginning) w,
+  λ w. large_case file (first_past_limit beginning file) refl (first_faults file beginning) w,
 )

@@ -1,7 +1,7 @@
 -- Which files are within the limits, by their lines.
 use Rattle.std.specs.Prelude.{◌≡◌, ℕ, ◌+◌, ◌<◌, ◌≤◌, List, [], ◌∷◌, ◌++◌, length, All, ◌==◌}
 use Rattle.std.specs.List.{slice_split}
-use Rattle.loda_io.specs.Shelf.{limit, line_limit}
+use Rattle.loda_io.specs.Shelf.{file_limit, line_limit}
 
 -- the lines of a file, each without its line feed; what stands after the last line feed is a line too
 abbrev pub file_lines : List ℕ → List (List ℕ)
@@ -22,7 +22,7 @@ size_of (line ∷ lines) = length line + 1 + size_of lines
 
 -- a file within both limits
 pub record IsWhole (file : List ℕ) : Type 0 where
-  pub size : length file ≤ limit
+  pub size : length file ≤ file_limit
   pub lines : AreShort (file_lines file)
 
 -- the line of that number, counted from 1, is the first that is too long, and its byte past the limit is before the file's
@@ -34,9 +34,9 @@ pub record IsFirstTooLong (file : List ℕ) (number : ℕ) : Type 0 where
   pub numbered : number ≡ length before + 1
   pub short : AreShort before
   pub long : line_limit < length text
-  pub first : size_of before + line_limit < limit
+  pub first : size_of before + line_limit < file_limit
 
 -- the file is longer than it may be, and no line is too long before that
 pub record IsTooLarge (file : List ℕ) : Type 0 where
-  pub size : limit < length file
+  pub size : file_limit < length file
   pub no_line : (number : ℕ) → IsFirstTooLong file number → ⊥

@@ -18,7 +18,7 @@ use Rattle.loda_mine.specs.declared.status.Status.TheVariants.{Done, Usage, Read
 use Rattle.loda_mine.specs.declared.words.Task.{Task}
 use Rattle.loda_mine.specs.declared.words.Task.TheVariants.{Publish, Check, Eval, Made}
 use Rattle.loda_mine.specs.Words.{Request}
-use Rattle.loda_mine.specs.Answer.{Found, ◌>>=◌, bytes_of, table_in, parsed_in, terms_of, store_of, candidates_of, contents_of, Refuses, IsAnswer}
+use Rattle.loda_mine.specs.Answer.{Found, ◌>>=◌, bytes_of, table_in, parsed_in, found_terms, found_store, found_candidates, contents_of, Refuses, IsAnswer}
 use Rattle.loda_mine.specs.Run.{IsNothing, FindsAt, Finds, Ends, RunsAs, FileFailed}
 
 -- ---- the errors of a result
@@ -43,15 +43,15 @@ May P Usage = ⊥
 May P WriteFault = ⊥
 May P s = Unit {0}
 
-table_may : (P : FileRole → Type 0) (read : Result Table terms_file.Fault) → Errs (May P) (table_in read)
+table_may : (P : FileRole → Type 0) (read : Result Table terms_file.TermsFault) → Errs (May P) (table_in read)
 table_may P (Ok table) = tt
 table_may P (Err fault) = tt
 
-store_may : {A : Type 0} (P : FileRole → Type 0) (read : Result A store_file.Fault) → Errs (May P) (parsed_in BadStore read)
+store_may : {A : Type 0} (P : FileRole → Type 0) (read : Result A store_file.StoreFault) → Errs (May P) (parsed_in BadStore read)
 store_may P (Ok store) = tt
 store_may P (Err fault) = tt
 
-candidates_may : {A : Type 0} (P : FileRole → Type 0) (read : Result A store_file.Fault) → Errs (May P) (parsed_in BadCandidates read)
+candidates_may : {A : Type 0} (P : FileRole → Type 0) (read : Result A store_file.StoreFault) → Errs (May P) (parsed_in BadCandidates read)
 candidates_may P (Ok store) = tt
 candidates_may P (Err fault) = tt
 
@@ -66,9 +66,9 @@ pub contents_may : (P : FileRole → Type 0) (found : Found) → (found.terms �
     → Errs (May P) (contents_of found)
 unfolding contents_of
 contents_may P found t s c =
-    errs_then (May P) (terms_of found.terms) _ (errs_then (May P) (bytes_of Terms found.terms) _ (bytes_may P Terms found.terms t) (λ bytes. table_may P _))
-    (λ terms. errs_then (May P) (store_of found.store) _ (errs_then (May P) (bytes_of Store found.store) _ (bytes_may P Store found.store s) (λ bytes. store_may P _))
-    (λ store. errs_then (May P) (candidates_of found.candidates) _ (errs_then (May P) (bytes_of Candidates found.candidates) _ (bytes_may P Candidates found.candidates c) (λ bytes. candidates_may P _))
+    errs_then (May P) (found_terms found.terms) _ (errs_then (May P) (bytes_of Terms found.terms) _ (bytes_may P Terms found.terms t) (λ bytes. table_may P _))
+    (λ terms. errs_then (May P) (found_store found.store) _ (errs_then (May P) (bytes_of Store found.store) _ (bytes_may P Store found.store s) (λ bytes. store_may P _))
+    (λ store. errs_then (May P) (found_candidates found.candidates) _ (errs_then (May P) (bytes_of Candidates found.candidates) _ (bytes_may P Candidates found.candidates c) (λ bytes. candidates_may P _))
     (λ candidates. tt)))
 
 pub refuses_may : (P : FileRole → Type 0) (task : Task) (limit : ℕ) (contents : Contents) (s : Status) → Refuses task limit contents s → May P s

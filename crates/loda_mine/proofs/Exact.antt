@@ -19,8 +19,8 @@ use Rattle.loda_mine.specs.declared.words.Task.TheVariants.{Publish, Check, Eval
 use Rattle.loda_mine.specs.Words.{Request}
 use Rattle.loda_mine.proofs.Opened.{nothing_checked}
 use Rattle.loda_mine.proofs.Ends.{May, errs_is, contents_may, refuses_may}
-use Rattle.loda_mine.specs.Answer.{Found, ◌>>=◌, bytes_of, terms_of, store_of, candidates_of, contents_of, Writes, Refuses, IsAnswer}
-use Rattle.loda_mine.specs.Run.{IsNothing, FindsAt, Finds, Ends, EndsAs, RunsAs, Files, TellsAt, Tells, all_of, StopsAt, EndsWith, Exactly, IsReady, NothingFails, Opens, WritesAll, Headline}
+use Rattle.loda_mine.specs.Answer.{Found, ◌>>=◌, bytes_of, found_terms, found_store, found_candidates, contents_of, Writes, Refuses, IsAnswer}
+use Rattle.loda_mine.specs.Run.{IsNothing, FindsAt, Finds, Ends, EndsAs, RunsAs, Files, TellsAt, Tells, all_of, StopsAt, EndsWith, Exactly, IsReady, NothingFails, Opens, WritesOutput, Headline}
 
 -- ---- answers by what was found, and by what is told
 
@@ -73,18 +73,18 @@ contents_meet : (k k' : Known) (request : Request) (files : Files) (found : Foun
 unfolding contents_of
 contents_meet k k' request files found tells finds =
     let P = StopsAt k k' request files in
-    meets_then P (terms_of found.terms) (terms_of (checked files.terms)) _ _
+    meets_then P (found_terms found.terms) (found_terms (checked files.terms)) _ _
     (meets_then P (bytes_of Terms found.terms) (bytes_of Terms (checked files.terms)) _ _
     (told_at P k k' Terms request.terms files.terms found.terms tells.terms finds.terms (λ p e f. record { failed = record { path = p; given = e; failed = f }; before = tt }))
     (λ bytes e. inl refl))
-    (λ terms terms_ok. meets_then P (store_of found.store) (store_of (checked files.store)) _ _
+    (λ terms terms_ok. meets_then P (found_store found.store) (found_store (checked files.store)) _ _
     (meets_then P (bytes_of Store found.store) (bytes_of Store (checked files.store)) _ _
-    (told_at P k k' Store request.store files.store found.store tells.store finds.store (λ p e f. record { failed = record { path = p; given = e; failed = f }; before = is_ok (terms_of (checked files.terms)) terms terms_ok }))
+    (told_at P k k' Store request.store files.store found.store tells.store finds.store (λ p e f. record { failed = record { path = p; given = e; failed = f }; before = is_ok (found_terms (checked files.terms)) terms terms_ok }))
     (λ bytes e. inl refl))
-    (λ store store_ok. meets_then P (candidates_of found.candidates) (candidates_of (checked files.candidates)) _ _
+    (λ store store_ok. meets_then P (found_candidates found.candidates) (found_candidates (checked files.candidates)) _ _
     (meets_then P (bytes_of Candidates found.candidates) (bytes_of Candidates (checked files.candidates)) _ _
     (told_at P k k' Candidates request.candidates files.candidates found.candidates tells.candidates finds.candidates
-    (λ p e f. record { failed = record { path = p; given = e; failed = f }; before = (is_ok (terms_of (checked files.terms)) terms terms_ok, is_ok (store_of (checked files.store)) store store_ok) }))
+    (λ p e f. record { failed = record { path = p; given = e; failed = f }; before = (is_ok (found_terms (checked files.terms)) terms terms_ok, is_ok (found_store (checked files.store)) store store_ok) }))
     (λ bytes e. inl refl))
     (λ candidates e. inl refl)))
 
@@ -200,7 +200,7 @@ complete o k k' w w' s request files contents h e opens ready none = elim (exact
 -- ---- what was written
 
 abbrev Wrote : Known → Written → Written → Request → Files → Type 0
-Wrote k w w' request files = (contents : Contents) × Opens k request files contents × WritesAll w w' request contents
+Wrote k w w' request files = (contents : Contents) × Opens k request files contents × WritesOutput w w' request contents
 
 ends_wrote : (k : Known) (w w' : Written) (request : Request) (files : Files) (read : Result Contents Status) (answer : Result (List ℕ) Status) → Tells k request files → contents_of (all_of files) ≡ read
     → IsAnswer request read answer → Ends answer w w' Done → Wrote k w w' request files

@@ -18,7 +18,7 @@ use Rattle.loda_mine.specs.declared.status.Status.TheVariants.{ReadFault, BadSto
 use Rattle.loda_mine.specs.declared.words.Task.{Task}
 use Rattle.loda_mine.specs.declared.words.Task.TheVariants.{Publish, Check, Eval, Made}
 use Rattle.loda_mine.specs.Words.{Request}
-use Rattle.loda_mine.specs.Answer.{Found, ◌>>=◌, bytes_of, table_in, parsed_in, terms_of, store_of, candidates_of, contents_of, Refuses, IsAnswer}
+use Rattle.loda_mine.specs.Answer.{Found, ◌>>=◌, bytes_of, table_in, parsed_in, found_terms, found_store, found_candidates, contents_of, Refuses, IsAnswer}
 use Rattle.loda_mine.proofs.Ends.{Errs, errs_then}
 use Rattle.loda_mine.specs.Run.{Finds, Ends, EndsAs, RunsAs, FileFailed, path_at, Files, TellsAt, EndsWith, error_in, stop_of, TellsTo, IsFirstStop, EndsSoOr, Precedes}
 use Rattle.loda_mine.proofs.Exact.{Meets, meets_then, told_at, stopped}
@@ -37,9 +37,9 @@ found_meet : (k k' : Known) (request : Request) (found other : Found) → MeetsA
 unfolding contents_of
 found_meet k k' request found other t s c =
     let P = Failing k k' request in
-    meets_then P (terms_of found.terms) (terms_of other.terms) _ _ (meets_then P (bytes_of Terms found.terms) (bytes_of Terms other.terms) _ _ t (λ bytes e. inl refl))
-    (λ terms e. meets_then P (store_of found.store) (store_of other.store) _ _ (meets_then P (bytes_of Store found.store) (bytes_of Store other.store) _ _ s (λ bytes e. inl refl))
-    (λ store e. meets_then P (candidates_of found.candidates) (candidates_of other.candidates) _ _ (meets_then P (bytes_of Candidates found.candidates) (bytes_of Candidates other.candidates) _ _ c (λ bytes e. inl refl))
+    meets_then P (found_terms found.terms) (found_terms other.terms) _ _ (meets_then P (bytes_of Terms found.terms) (bytes_of Terms other.terms) _ _ t (λ bytes e. inl refl))
+    (λ terms e. meets_then P (found_store found.store) (found_store other.store) _ _ (meets_then P (bytes_of Store found.store) (bytes_of Store other.store) _ _ s (λ bytes e. inl refl))
+    (λ store e. meets_then P (found_candidates found.candidates) (found_candidates other.candidates) _ _ (meets_then P (bytes_of Candidates found.candidates) (bytes_of Candidates other.candidates) _ _ c (λ bytes e. inl refl))
     (λ candidates e. inl refl)))
 
 -- what is told up to a file, and what was found of those behind it
@@ -73,14 +73,14 @@ an_ok (Err s) h = absurd cc
 
 stops_first : (files : Files) (found : Found) (file : FileRole) (s : Status) → IsFirstStop files file s → contents_of (told_to files found file) ≡ Err s
 unfolding contents_of
-stops_first files found Terms s h = rw (is_error (terms_of (checked files.terms)) s h.stop) refl
+stops_first files found Terms s h = rw (is_error (found_terms (checked files.terms)) s h.stop) refl
 stops_first files found Store s h =
-    let terms = an_ok (terms_of (checked files.terms)) h.before in
-    rw (terms.1, is_error (store_of (checked files.store)) s h.stop) refl
+    let terms = an_ok (found_terms (checked files.terms)) h.before in
+    rw (terms.1, is_error (found_store (checked files.store)) s h.stop) refl
 stops_first files found Candidates s h =
-    let terms = an_ok (terms_of (checked files.terms)) h.before.0 in
-    let store = an_ok (store_of (checked files.store)) h.before.1 in
-    rw (terms.1, store.1, is_error (candidates_of (checked files.candidates)) s h.stop) refl
+    let terms = an_ok (found_terms (checked files.terms)) h.before.0 in
+    let store = an_ok (found_store (checked files.store)) h.before.1 in
+    rw (terms.1, store.1, is_error (found_candidates (checked files.candidates)) s h.stop) refl
 
 ends_with : (request : Request) (contents : Result Contents Status) (e : Status) (w w' : Written) (s : Status) → contents ≡ Err e → EndsAs request contents w w' s → EndsWith e w w' s
 ends_with request contents e w w' s is h =
@@ -117,18 +117,18 @@ bytes_of_file role (Err (errors.FileTooLarge size)) = tt
 bytes_of_file role (Err (errors.LineTooLong line)) = tt
 bytes_of_file role (Err errors.Memory) = tt
 
-table_of_file : (read : Result Table terms_file.Fault) → Errs (OfFile Terms) (table_in read)
+table_of_file : (read : Result Table terms_file.TermsFault) → Errs (OfFile Terms) (table_in read)
 table_of_file (Ok table) = tt
 table_of_file (Err fault) = tt
 
-store_of_file : {A : Type 0} (read : Result A store_file.Fault) → Errs (OfFile Store) (parsed_in BadStore read)
+store_of_file : {A : Type 0} (read : Result A store_file.StoreFault) → Errs (OfFile Store) (parsed_in BadStore read)
 store_of_file (Ok store) = tt
 store_of_file (Err fault) = tt
 
-terms_errs : (found : Result (List ℕ) ReadError) → Errs (OfFile Terms) (terms_of found)
+terms_errs : (found : Result (List ℕ) ReadError) → Errs (OfFile Terms) (found_terms found)
 terms_errs found = errs_then (OfFile Terms) (bytes_of Terms found) _ (bytes_of_file Terms found) (λ bytes. table_of_file _)
 
-store_errs : (found : Result (List ℕ) ReadError) → Errs (OfFile Store) (store_of found)
+store_errs : (found : Result (List ℕ) ReadError) → Errs (OfFile Store) (found_store found)
 store_errs found = errs_then (OfFile Store) (bytes_of Store found) _ (bytes_of_file Store found) (λ bytes. store_of_file _)
 
 -- no command blames a file
@@ -159,16 +159,16 @@ read_before : (k k' : Known) (request : Request) (found : Found) (finds : Finds 
 unfolding contents_of
 read_before k k' request found finds Store Terms bytes e order tells =
     let files : Files = record { terms = bytes; store = []; candidates = [] } in
-    let first = blamed_later Terms Store (terms_of found.terms) _ (terms_errs found.terms) e (λ same. absurd cc) in
+    let first = blamed_later Terms Store (found_terms found.terms) _ (terms_errs found.terms) e (λ same. absurd cc) in
     ok_meets (Failing k k' request) (bytes_of Terms found.terms) (bytes_of Terms (checked bytes)) _ first.0 (terms_meet k k' request files found finds tells) first.1
 read_before k k' request found finds Candidates Terms bytes e order tells =
     let files : Files = record { terms = bytes; store = []; candidates = [] } in
-    let first = blamed_later Terms Candidates (terms_of found.terms) _ (terms_errs found.terms) e (λ same. absurd cc) in
+    let first = blamed_later Terms Candidates (found_terms found.terms) _ (terms_errs found.terms) e (λ same. absurd cc) in
     ok_meets (Failing k k' request) (bytes_of Terms found.terms) (bytes_of Terms (checked bytes)) _ first.0 (terms_meet k k' request files found finds tells) first.1
 read_before k k' request found finds Candidates Store bytes e order tells =
     let files : Files = record { terms = []; store = bytes; candidates = [] } in
-    let first = blamed_later Terms Candidates (terms_of found.terms) _ (terms_errs found.terms) e (λ same. absurd cc) in
-    let second = blamed_later Store Candidates (store_of found.store) _ (store_errs found.store) first.2 (λ same. absurd cc) in
+    let first = blamed_later Terms Candidates (found_terms found.terms) _ (terms_errs found.terms) e (λ same. absurd cc) in
+    let second = blamed_later Store Candidates (found_store found.store) _ (store_errs found.store) first.2 (λ same. absurd cc) in
     ok_meets (Failing k k' request) (bytes_of Store found.store) (bytes_of Store (checked bytes)) _ second.0 (store_meet k k' request files found finds tells) second.1
 read_before k k' request found finds Terms Terms bytes e order tells = absurd order
 read_before k k' request found finds Terms Store bytes e order tells = absurd order

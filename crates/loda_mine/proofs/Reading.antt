@@ -13,7 +13,7 @@ use Rattle.program_store.specs.Store.{Store}
 use Rattle.loda_mine.specs.declared.files.Contents.{Contents}
 use Rattle.loda_mine.specs.declared.status.Status.{Status}
 use Rattle.loda_mine.specs.Words.{Request}
-use Rattle.loda_mine.specs.Answer.{Found, terms_of, store_of, candidates_of, contents_of}
+use Rattle.loda_mine.specs.Answer.{Found, found_terms, found_store, found_candidates, contents_of}
 use Rattle.loda_mine.specs.Run.{FindsAt, Finds}
 
 later : (a b c : Known) (path : Option (List ℕ)) (found : Result (List ℕ) ReadError) → FindsAt a b path found → OnlyRead b c → FindsAt a c path found
@@ -36,7 +36,7 @@ finds_nothing a b (Some path) = tt
 abbrev pub Opened : Known → Known → Request → Result Contents Status → Type 0
 Opened k k' request result = (found : Found) × Finds k k' request found × (contents_of found ≡ result)
 
-pub stops_at_terms : (a b : Known) (request : Request) (s : Status) (first : Result (List ℕ) ReadError) → FindsAt a b request.terms first → terms_of first ≡ Err s → Opened a b request (Err s)
+pub stops_at_terms : (a b : Known) (request : Request) (s : Status) (first : Result (List ℕ) ReadError) → FindsAt a b request.terms first → found_terms first ≡ Err s → Opened a b request (Err s)
 unfolding contents_of
 stops_at_terms a b request s first finds e = (
   record { terms = first; store = not_read; candidates = not_read },
@@ -45,7 +45,7 @@ stops_at_terms a b request s first finds e = (
 )
 
 pub stops_at_store : (a b c : Known) (request : Request) (s : Status) (terms : Table) (first second : Result (List ℕ) ReadError) → OnlyRead a b → OnlyRead b c
-    → FindsAt a b request.terms first → terms_of first ≡ Ok terms → FindsAt b c request.store second → store_of second ≡ Err s → Opened a c request (Err s)
+    → FindsAt a b request.terms first → found_terms first ≡ Ok terms → FindsAt b c request.store second → found_store second ≡ Err s → Opened a c request (Err s)
 unfolding contents_of
 stops_at_store a b c request s terms first second p q finds e finds' e' = (
   record { terms = first; store = second; candidates = not_read },
@@ -54,7 +54,7 @@ stops_at_store a b c request s terms first second p q finds e finds' e' = (
 )
 
 module _ (a b c d : Known) (request : Request) (terms : Table) (store : Store) (first second third : Result (List ℕ) ReadError) (p : OnlyRead a b) (q : OnlyRead b c) (r : OnlyRead c d)
-    (finds : FindsAt a b request.terms first) (e : terms_of first ≡ Ok terms) (finds' : FindsAt b c request.store second) (e' : store_of second ≡ Ok store) (finds'' : FindsAt c d request.candidates third) where
+    (finds : FindsAt a b request.terms first) (e : found_terms first ≡ Ok terms) (finds' : FindsAt b c request.store second) (e' : found_store second ≡ Ok store) (finds'' : FindsAt c d request.candidates third) where
   found : Found
   found = record { terms = first; store = second; candidates = third }
 
@@ -66,10 +66,10 @@ module _ (a b c d : Known) (request : Request) (terms : Table) (store : Store) (
     candidates = earlier a b d request.candidates third p (earlier b c d request.candidates third q finds'');
   }
 
-  pub stops_at_candidates : (s : Status) → candidates_of third ≡ Err s → Opened a d request (Err s)
+  pub stops_at_candidates : (s : Status) → found_candidates third ≡ Err s → Opened a d request (Err s)
   unfolding contents_of found
   stops_at_candidates s e'' = (found, all_found, rw (e, e', e'') refl)
 
-  pub all_opened : (candidates : List Proposal) → candidates_of third ≡ Ok candidates → Opened a d request (Ok (record { terms = terms; store = store; candidates = candidates }))
+  pub all_opened : (candidates : List Proposal) → found_candidates third ≡ Ok candidates → Opened a d request (Ok (record { terms = terms; store = store; candidates = candidates }))
   unfolding contents_of found
   all_opened candidates e'' = (found, all_found, rw (e, e', e'') refl)

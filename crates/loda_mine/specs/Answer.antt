@@ -45,6 +45,7 @@ pub record Found : Type 0 where
   pub store : Result (List ℕ) ReadError
   pub candidates : Result (List ℕ) ReadError
 
+-- what comes next, unless there is a status
 infixl 10 ◌>>=◌
 abbrev pub ◌>>=◌ : {A B : Type 0} → Result A Status → (A → Result B Status) → Result B Status
 (Ok x) >>= f = f x
@@ -59,43 +60,51 @@ status_of file (errors.FileTooLarge size) = statuses.FileTooLarge file size
 status_of file (errors.LineTooLong line) = statuses.LineTooLong file line
 status_of file errors.Memory = statuses.Memory
 
+-- the bytes of a file, or its status
 abbrev pub bytes_of : FileRole → Result (List ℕ) ReadError → Result (List ℕ) Status
 bytes_of file (Ok bytes) = Ok bytes
 bytes_of file (Err e) = Err (status_of file e)
 
-abbrev pub table_in : Result Table terms_file.Fault → Result Table Status
+-- a table, or the status of its fault
+abbrev pub table_in : Result Table terms_file.TermsFault → Result Table Status
 table_in (Ok table) = Ok table
 table_in (Err fault) = Err (statuses.BadTerms fault.line fault.kind)
 
-abbrev pub parsed_in : {A : Type 0} → (ℕ → StoreKind → Status) → Result A store_file.Fault → Result A Status
+-- what was parsed, or the status of its fault
+abbrev pub parsed_in : {A : Type 0} → (ℕ → StoreKind → Status) → Result A store_file.StoreFault → Result A Status
 parsed_in bad (Ok x) = Ok x
 parsed_in bad (Err fault) = Err (bad fault.line fault.kind)
 
-abbrev pub terms_of : Result (List ℕ) ReadError → Result Table Status
-terms_of found = bytes_of Terms found >>= λ bytes. table_in (terms_file.stripped bytes)
+-- what a terms file gives
+abbrev pub found_terms : Result (List ℕ) ReadError → Result Table Status
+found_terms found = bytes_of Terms found >>= λ bytes. table_in (terms_file.stripped bytes)
 
 -- what a store or a candidates file gives
-abbrev pub parsed_of : {A : Type 0} → FileRole → (ℕ → StoreKind → Status) → (List ℕ → Result A store_file.Fault) → Result (List ℕ) ReadError → Result A Status
+abbrev pub parsed_of : {A : Type 0} → FileRole → (ℕ → StoreKind → Status) → (List ℕ → Result A store_file.StoreFault) → Result (List ℕ) ReadError → Result A Status
 parsed_of file bad read found = bytes_of file found >>= λ bytes. parsed_in bad (read bytes)
 
-abbrev pub store_of : Result (List ℕ) ReadError → Result stores.Store Status
-store_of found = parsed_of Store statuses.BadStore store_file.store_read found
+-- what a store file gives, or none
+abbrev pub found_store : Result (List ℕ) ReadError → Result stores.Store Status
+found_store found = parsed_of Store statuses.BadStore store_file.store_read found
 
-abbrev pub candidates_of : Result (List ℕ) ReadError → Result (List Proposal) Status
-candidates_of found = parsed_of Candidates statuses.BadCandidates store_file.candidates_read found
+-- what a candidates file gives
+abbrev pub found_candidates : Result (List ℕ) ReadError → Result (List Proposal) Status
+found_candidates found = parsed_of Candidates statuses.BadCandidates store_file.candidates_read found
 
 -- The files are read and parsed one after the other, and the first status is answered.
 unfoldable pub contents_of : Found → Result Contents Status
 contents_of found =
-    terms_of found.terms >>= λ terms. store_of found.store >>= λ store. candidates_of found.candidates >>= λ candidates.
+    found_terms found.terms >>= λ terms. found_store found.store >>= λ store. found_candidates found.candidates >>= λ candidates.
     Ok (record { terms = terms; store = store; candidates = candidates })
 
 -- ---- the errors of the layers below
 
+-- the status of a store that is refused
 abbrev pub check_status : CheckError → Status
 check_status (check_errors.Unsound reason) = statuses.Unsound reason
 check_status check_errors.Memory = statuses.Memory
 
+-- the status of a desk that is not opened
 abbrev pub open_status : OpenError → Status
 open_status (open_errors.Unsound reason) = statuses.Unsound reason
 open_status open_errors.Memory = statuses.Memory
@@ -138,6 +147,7 @@ Refuses Check limit contents (statuses.Unsound reason) = IsUnsound contents.stor
 Refuses (Eval name arg) limit contents (statuses.Absent absent) = (absent ≡ name) × (published_at contents.store name ≡ None)
 Refuses task limit contents status = ⊥
 
+-- what a command answers: what it writes, or why it writes nothing
 abbrev pub IsOutput : Task → ℕ → Contents → Result (List ℕ) Status → Type 0
 IsOutput task limit contents (Ok output) = Writes task limit contents output
 IsOutput task limit contents (Err status) = Refuses task limit contents status

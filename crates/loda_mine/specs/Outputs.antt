@@ -2,8 +2,7 @@
 use Rattle.std.specs.Prelude.{ℕ, Bool, true, false, List, ◌++◌, codes, length, count_by}
 use Rattle.std.specs.Fmt.{decimal, signed_decimal}
 use Rattle.std.specs.FinMap as map
-use Rattle.loda_semantics.specs.declared.kinds.FaultKind.{FaultKind}
-use Rattle.loda_semantics.specs.declared.kinds.FaultKind.TheVariants.{Overflow, DivideByZero, BadCell, Missing}
+use Rattle.loda_semantics.specs.Faults.{fault_text}
 use Rattle.seq_calls.specs.declared.outcomes.Outcome.{Outcome}
 use Rattle.seq_calls.specs.declared.outcomes.Outcome.TheVariants.{Value, Fault, OutOfSteps}
 use Rattle.judge.specs.declared.answer.Answer.{Answer}
@@ -13,12 +12,7 @@ use Rattle.evidence.specs.declared.finding.Finding.{Finding}
 use Rattle.evidence.specs.declared.finding.Finding.TheVariants.{Nothing, Judged}
 use Rattle.loda_mine.specs.declared.files.Contents.{Contents}
 
-abbrev pub fault_text : FaultKind → List ℕ
-fault_text Overflow = codes "overflow"
-fault_text DivideByZero = codes "divide-by-zero"
-fault_text BadCell = codes "bad-cell"
-fault_text Missing = codes "missing"
-
+-- the end of a line with the number of steps
 abbrev pub steps_text : ℕ → List ℕ
 steps_text steps = codes " steps " ++ decimal steps ++ codes "\n"
 
@@ -28,6 +22,7 @@ outcome_text (Value value steps) = codes "value " ++ signed_decimal value ++ ste
 outcome_text (Fault kind steps) = codes "fault " ++ fault_text kind ++ steps_text steps
 outcome_text OutOfSteps = codes "out-of-steps\n"
 
+-- a line of a word and a count
 abbrev pub count_line : List ℕ → ℕ → List ℕ
 count_line word count = word ++ decimal count ++ codes "\n"
 
@@ -37,11 +32,12 @@ sound_text contents =
     count_line (codes "rows ") (length contents.terms.rows) ++ count_line (codes "skipped ") contents.terms.skipped
     ++ count_line (codes "programs ") (map.len contents.store) ++ codes "sound\n"
 
--- whether a proposal was accepted, and whether it brought no gain
+-- whether a proposal was accepted
 abbrev pub accepts : Answer → Bool
 accepts (answers.Accepted checked) = true
 accepts answer = false
 
+-- whether it brought no gain
 abbrev pub gains_nothing : Answer → Bool
 gains_nothing answers.NoGain = true
 gains_nothing answer = false

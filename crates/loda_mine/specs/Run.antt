@@ -4,8 +4,8 @@ use Rattle.std.specs.declared.option.Option.{Option}
 use Rattle.std.specs.declared.option.Option.TheVariants.{Some, None}
 use Rattle.loda_io.specs.declared.ReadError.{ReadError}
 use Rattle.loda_io.specs.declared.ReadError.TheVariants as errors
-use Rattle.loda_io.specs.Shelf.{Known, Reads, ReadFailed, checked}
-use Rattle.loda_io.specs.Sink.{Written, Adds, AddsFront, WriteFailed}
+use Rattle.loda_io.specs.Shelf.{Known, ReadsFile, ReadFailed, checked}
+use Rattle.loda_io.specs.Sink.{Written, Adds, AddsFirstPart, WriteFailed}
 use Rattle.oeis_terms.specs.Table.{row_of}
 use Rattle.program_store.specs.declared.published.Published.{Published}
 use Rattle.program_store.specs.Store.{published_at}
@@ -20,7 +20,7 @@ use Rattle.loda_mine.specs.declared.status.Status.TheVariants.{Done, Usage, Read
 use Rattle.loda_mine.specs.declared.words.Task.{Task}
 use Rattle.loda_mine.specs.declared.words.Task.TheVariants.{Publish, Check, Eval, Made}
 use Rattle.loda_mine.specs.Words.{Request}
-use Rattle.loda_mine.specs.Answer.{Found, terms_of, store_of, candidates_of, contents_of, IsDecided, Writes, IsAnswer}
+use Rattle.loda_mine.specs.Answer.{Found, found_terms, found_store, found_candidates, contents_of, IsDecided, Writes, IsAnswer}
 
 -- ---- what is found
 
@@ -33,8 +33,9 @@ IsNothing (Err e) = ⊥
 -- What was found is what reading may give at a path, if the command has one.
 abbrev pub FindsAt : Known → Known → Option (List ℕ) → Result (List ℕ) ReadError → Type 0
 FindsAt k k' None found = IsNothing found
-FindsAt k k' (Some path) found = Reads k k' path found
+FindsAt k k' (Some path) found = ReadsFile k k' path found
 
+-- what was found at each path of the words
 pub record Finds (k k' : Known) (request : Request) (found : Found) : Type 0 where
   pub terms : FindsAt k k' request.terms found.terms
   pub store : FindsAt k k' request.store found.store
@@ -46,10 +47,11 @@ pub record Finds (k k' : Known) (request : Request) (found : Found) : Type 0 whe
 -- sink failed, or nothing.
 abbrev pub Ends : Result (List ℕ) Status → Written → Written → Status → Type 0
 Ends (Ok output) w w' Done = Adds w w' output
-Ends (Ok output) w w' WriteFault = AddsFront w w' output × WriteFailed w w'
+Ends (Ok output) w w' WriteFault = AddsFirstPart w w' output × WriteFailed w w'
 Ends (Ok output) w w' status = ⊥
 Ends (Err s) w w' status = (status ≡ s) × (w' ≡ w)
 
+-- how a run ends for what stands in the files
 abbrev pub EndsAs : Request → Result Contents Status → Written → Written → Status → Type 0
 EndsAs request contents w w' status = (answer : Result (List ℕ) Status) × IsAnswer request contents answer × Ends answer w w' status
 
@@ -84,6 +86,7 @@ abbrev pub TellsAt : Known → Option (List ℕ) → List ℕ → Type 0
 TellsAt k None file = file ≡ []
 TellsAt k (Some path) file = k.bytes path ≡ Some file
 
+-- the shelf tells the bytes of each file of the words
 pub record Tells (k : Known) (request : Request) (files : Files) : Type 0 where
   pub terms : TellsAt k request.terms files.terms
   pub store : TellsAt k request.store files.store
@@ -96,8 +99,8 @@ all_of files = record { terms = checked files.terms; store = checked files.store
 -- the files before this one are in their sizes and grammars
 abbrev pub OpenedBefore : Files → FileRole → Type 0
 OpenedBefore files Terms = Unit {0}
-OpenedBefore files Store = IsOk (terms_of (checked files.terms))
-OpenedBefore files Candidates = IsOk (terms_of (checked files.terms)) × IsOk (store_of (checked files.store))
+OpenedBefore files Store = IsOk (found_terms (checked files.terms))
+OpenedBefore files Candidates = IsOk (found_terms (checked files.terms)) × IsOk (found_store (checked files.store))
 
 -- the run stops at a file that the shelf failed to read, where the files are told
 pub record StopsAt (k k' : Known) (request : Request) (files : Files) (file : FileRole) : Type 0 where
@@ -116,6 +119,7 @@ Exactly k k' w w' request files status =
 
 -- ---- files of which only the first ones are told
 
+-- the error, where it is one
 abbrev pub error_in : {A : Type 0} → Result A Status → Option Status
 error_in (Ok x) = None
 error_in (Err s) = Some s
@@ -128,9 +132,9 @@ bytes_at files Candidates = files.candidates
 
 -- the status with which a file of these bytes stops a run, if it does
 abbrev pub stop_of : FileRole → List ℕ → Option Status
-stop_of Terms bytes = error_in (terms_of (checked bytes))
-stop_of Store bytes = error_in (store_of (checked bytes))
-stop_of Candidates bytes = error_in (candidates_of (checked bytes))
+stop_of Terms bytes = error_in (found_terms (checked bytes))
+stop_of Store bytes = error_in (found_store (checked bytes))
+stop_of Candidates bytes = error_in (found_candidates (checked bytes))
 
 -- this file and those before it are told
 abbrev pub TellsTo : Known → Request → Files → FileRole → Type 0
@@ -178,7 +182,7 @@ pub record Opens (k : Known) (request : Request) (files : Files) (contents : Con
 -- ---- the headline
 
 -- All of the output was written, and it is what the command writes for what stands in the files.
-pub record WritesAll (w w' : Written) (request : Request) (contents : Contents) : Type 0 where
+pub record WritesOutput (w w' : Written) (request : Request) (contents : Contents) : Type 0 where
   pub output : List ℕ
   pub is : Writes request.task request.limit contents output
   pub added : Adds w w' output

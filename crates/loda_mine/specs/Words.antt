@@ -2,7 +2,7 @@
 use Rattle.std.specs.Prelude.{ℕ, ◌≤◌, ◌-◌, ◌^◌, List, [], ◌∷◌, length, drop, codes, bytes_eq, nat_eq, nat_le, nat_lt, ◌==◌, ◌&&◌, if◌then◌else◌, Bool, ⊤, ℤ, pos, neg_ℤ, Option, Some, None}
 use Rattle.std.specs.List.{starts_with, filter_map, list_all, list_any}
 use Rattle.std.specs.Option.{option_map}
-use Rattle.text_parts.specs.Digits.{decimal_of}
+use Rattle.text_parts.specs.Digits.{decimal_spelled}
 use Rattle.text_parts.specs.Names.{IsName, name_read}
 use Rattle.loda_mine.specs.declared.words.Kind.{Kind}
 use Rattle.loda_mine.specs.declared.words.Kind.TheVariants as kinds
@@ -18,6 +18,7 @@ pub record Request : Type 0 where
   pub candidates : Option (List ℕ)
   pub limit : ℕ
 
+-- what comes next, where there is something
 infixl 10 ◌>>=◌
 abbrev pub ◌>>=◌ : {A B : Type 0} → Option A → (A → Option B) → Option B
 (Some x) >>= f = f x
@@ -65,7 +66,7 @@ between least greatest n = if nat_le least n && nat_le n greatest then Some n el
 
 -- a decimal number from a least to a greatest one
 abbrev pub decimal_between : ℕ → ℕ → List ℕ → Option ℕ
-decimal_between least greatest text = decimal_of text >>= between least greatest
+decimal_between least greatest text = decimal_spelled text >>= between least greatest
 
 -- a step limit is from 1 to 10,000,000
 abbrev pub limit_read : List ℕ → Option ℕ
@@ -75,6 +76,7 @@ limit_read text = decimal_between 1 10000000 text
 abbrev pub default_limit : ℕ
 default_limit = 100000
 
+-- the step limit of `steps=`, or the one that stands without it
 abbrev pub limit_or_default : Option (List ℕ) → Option ℕ
 limit_or_default None = Some default_limit
 limit_or_default (Some text) = limit_read text
@@ -117,15 +119,19 @@ IsInRange Check = ⊤
 IsInRange (Eval name arg) = IsName name
 IsInRange (Made n kind) = (1 ≤ n) × (n ≤ 20000)
 
+-- the path behind a key that has to stand once
 abbrev pub path_of : List ℕ → List (List ℕ) → Option (List ℕ)
 path_of key words = needed (values_of key words) >>= path_read
 
+-- the path behind `store=`, or none for the empty store
 abbrev pub store_path : List (List ℕ) → Option (Option (List ℕ))
 store_path words = needed (values_of (codes "store=") words) >>= store_path_read
 
+-- the step limit of the words
 abbrev pub limit_of : List (List ℕ) → Option ℕ
 limit_of words = optional (values_of (codes "steps=") words) >>= limit_or_default
 
+-- the request, where every word has one of these keys
 abbrev pub if_only : List (List ℕ) → List (List ℕ) → Option Request → Option Request
 if_only keys words request = if has_only keys words then request else None
 

@@ -1,33 +1,22 @@
 //! `check` and `eval`.
 
 ghost use Rattle.std.specs.Prelude.{◌≡◌, ◌≤◌, ◌++◌, OnOk, IfOk, Result, Ok, Err};
-ghost use Rattle.std.specs.Fmt.{decimal};
 ghost use Rattle.oeis_terms.specs.Table.{IsBounded};
 ghost use Rattle.loda_semantics.specs.Exec.{run_name};
 ghost use Rattle.program_store.specs.Store.{programs_of};
 ghost use Rattle.seq_calls.specs.Frames.{told};
-ghost use Rattle.loda_mine.specs.Outputs.{fault_text, outcome_text, count_line, sound_text};
+ghost use Rattle.loda_mine.specs.Outputs.{outcome_text, count_line, sound_text};
 ghost use Rattle.loda_mine.specs.Answer.{IsOutput, bytes_in};
 
 use crate::files::Contents;
 use crate::status::Status;
 use crate::words::Task;
 use checked_numbers::{Num, write_num};
-use itoa::Buffer;
 use judge::check_store;
-use loda_semantics::FaultKind;
 use program_store::{Store, View};
 use seq_calls::{Outcome, outcome_alone};
 use std::alloc::{AllocError, Global};
-
-// Adds a word and a count.
-fn write_counted(out: &mut Vec<u8>, word: &[u8], count: u64) -> Result<(), AllocError>
-    ensures { OnOk result (out.new.items ≡ out.old.items ++ (word.now ++ decimal count)) }
-{
-    let mut buffer = Buffer::new();
-    out.extend_from_slice(word)?;
-    out.extend_from_slice(buffer.format(count).as_bytes())
-}
+use text_parts::write_counted;
 
 /// Adds a line of a word and a count.
 pub fn write_line(out: &mut Vec<u8>, word: &[u8], count: u64) -> Result<(), AllocError>
@@ -60,18 +49,6 @@ pub fn check(alloc: Global, contents: &Contents, limit: u64) -> Result<Vec<u8>, 
     Ok(output)
 }
 
-// Adds a fault's word.
-fn write_fault(out: &mut Vec<u8>, kind: FaultKind) -> Result<(), AllocError>
-    ensures { OnOk result (out.new.items ≡ out.old.items ++ fault_text kind) }
-{
-    match kind {
-        FaultKind::Overflow => out.extend_from_slice(b"overflow"),
-        FaultKind::DivideByZero => out.extend_from_slice(b"divide-by-zero"),
-        FaultKind::BadCell => out.extend_from_slice(b"bad-cell"),
-        FaultKind::Missing => out.extend_from_slice(b"missing"),
-    }
-}
-
 // Adds what a run came to.
 #[tactic(auto, unfolding(crate::specs::Outputs::outcome_text))]
 fn write_outcome(out: &mut Vec<u8>, outcome: Outcome) -> Result<(), AllocError>
@@ -85,7 +62,7 @@ fn write_outcome(out: &mut Vec<u8>, outcome: Outcome) -> Result<(), AllocError>
         }
         Outcome::Fault { kind, steps } => {
             out.extend_from_slice(b"fault ")?;
-            write_fault(out, kind)?;
+            out.extend_from_slice(kind.word().as_bytes())?;
             write_line(out, b" steps ", steps)
         }
         Outcome::OutOfSteps => out.extend_from_slice(b"out-of-steps\n"),

@@ -7,7 +7,7 @@ ghost use Rattle.loda_io.specs.Shelf.{OnlyRead};
 ghost use Rattle.oeis_terms.specs.Table.{IsBounded};
 ghost use Rattle.program_store.specs.Files.{store_read, candidates_read};
 ghost use Rattle.loda_mine.specs.Files.{terms_status, parsed_status, TermsAt, ParsedAt};
-ghost use Rattle.loda_mine.specs.Answer.{Found, terms_of, store_of, candidates_of, contents_of};
+ghost use Rattle.loda_mine.specs.Answer.{Found, found_terms, found_store, found_candidates, contents_of};
 ghost use Rattle.loda_mine.specs.Requests.{asked};
 ghost use Rattle.loda_mine.specs.Run.{FindsAt, Finds};
 
@@ -117,7 +117,7 @@ fn open_terms<F: Shelf>(
 ) -> Result<TermTable, Status>
     ensures kept { OnlyRead (F.known shelf.old) (F.known shelf.new) }
     ensures answer { (found : Result (List ℕ) ReadError) × FindsAt (F.known shelf.old) (F.known shelf.new) (option_map (λ p. p.now) path.entry) found
-        × (terms_of found ≡ result) }
+        × (found_terms found ≡ result) }
     ensures bounded { IfOk result IsBounded }
 {
     match terms_at(alloc, shelf, path) {
@@ -130,7 +130,7 @@ fn open_terms<F: Shelf>(
 fn open_store<F: Shelf>(alloc: Global, shelf: &mut F, path: Option<&str>) -> Result<Store, Status>
     ensures kept { OnlyRead (F.known shelf.old) (F.known shelf.new) }
     ensures answer { (found : Result (List ℕ) ReadError) × FindsAt (F.known shelf.old) (F.known shelf.new) (option_map (λ p. p.now) path.entry) found
-        × (store_of found ≡ result) }
+        × (found_store found ≡ result) }
 {
     match store_at(alloc, shelf, path) {
         Ok(store) => Ok(store),
@@ -146,7 +146,7 @@ fn open_candidates<F: Shelf>(
 ) -> Result<Candidates, Status>
     ensures kept { OnlyRead (F.known shelf.old) (F.known shelf.new) }
     ensures answer { (found : Result (List ℕ) ReadError) × FindsAt (F.known shelf.old) (F.known shelf.new) (option_map (λ p. p.now) path.entry) found
-        × (candidates_of found ≡ result) }
+        × (found_candidates found ≡ result) }
 {
     match candidates_at(alloc, shelf, path) {
         Ok(candidates) => Ok(candidates),

@@ -10,7 +10,7 @@ ghost use Rattle.loda_mine.specs.declared.status.Status.{Status as status};
 ghost use Rattle.loda_mine.specs.Words.{Request as request, request_of, IsInRange};
 ghost use Rattle.loda_mine.specs.Requests.{asked};
 ghost use Rattle.loda_mine.specs.Answer.{Found, contents_of, IsOutput, IsAnswer, bytes_in};
-ghost use Rattle.loda_mine.specs.Run.{Finds, RunsAs, FileFailed, path_at, Files, TellsAt, Tells, Exactly, stop_of, TellsTo, IsFirstStop, EndsSoOr, Precedes, IsReady, NothingFails, Opens, WritesAll, Headline, HasOneOutput};
+ghost use Rattle.loda_mine.specs.Run.{Finds, RunsAs, FileFailed, path_at, Files, TellsAt, Tells, Exactly, stop_of, TellsTo, IsFirstStop, EndsSoOr, Precedes, IsReady, NothingFails, Opens, WritesOutput, Headline, HasOneOutput};
 
 use crate::checking::{check, eval};
 use crate::files::{Contents, open};
@@ -98,7 +98,7 @@ pub fn run_plain<F: Shelf, K: Sink>(
         → (result ≡ Status.Done) ⊎ (result ≡ Status.Memory) }
     // What is written at the end is what the command has for what stands in the files, and nothing else.
     ensures done { (asks : request) (files : Files) → request_of (map string_bytes words.now) ≡ Some asks → Tells (F.known shelf.old) asks files → result ≡ Status.Done
-        → (inside : contents) × Opens (F.known shelf.old) asks files inside × WritesAll (K.written sink.old) (K.written sink.new) asks inside }
+        → (inside : contents) × Opens (F.known shelf.old) asks files inside × WritesOutput (K.written sink.old) (K.written sink.new) asks inside }
     // What `publish` writes at the end: every job answered as one thread would, in order, and nothing lost.
     ensures headline { (asks : request) (files : Files) → request_of (map string_bytes words.now) ≡ Some asks → asks.task ≡ Task.Publish → Tells (F.known shelf.old) asks files → result ≡ Status.Done
         → Headline (F.known shelf.old) (K.written sink.old) (K.written sink.new) asks files }

@@ -1,6 +1,7 @@
 //! Why a store is not sound, in words.
 
 use judge::{Got, Unsound};
+use loda_semantics::FaultKind;
 use std::fmt;
 
 // What was got in the place of a term, in words.
@@ -14,10 +15,10 @@ impl fmt::Display for GotText {
                 let value = value.get();
                 write!(f, "{value}")
             }
-            Got::Overflow => f.write_str("overflow"),
-            Got::DivideByZero => f.write_str("divide-by-zero"),
-            Got::BadCell => f.write_str("bad-cell"),
-            Got::Missing => f.write_str("missing"),
+            Got::Overflow => f.write_str(FaultKind::Overflow.word()),
+            Got::DivideByZero => f.write_str(FaultKind::DivideByZero.word()),
+            Got::BadCell => f.write_str(FaultKind::BadCell.word()),
+            Got::Missing => f.write_str(FaultKind::Missing.word()),
             Got::OutOfSteps => f.write_str("out-of-steps"),
         }
     }

@@ -3,7 +3,7 @@
 ghost use Rattle.std.specs.Prelude.{◌≡◌, ◌<◌, ◌≤◌, ◌^◌, map, nat_eq, string_bytes, codes, bytes_eq, IfSome};
 ghost use Rattle.std.specs.List.{starts_with, list_any};
 ghost use Rattle.std.specs.Option.{option_map};
-ghost use Rattle.text_parts.specs.Digits.{decimal_of};
+ghost use Rattle.text_parts.specs.Digits.{decimal_spelled};
 ghost use Rattle.loda_mine.specs.Words.{value_in, values_of, optional, needed, has_only, path_read, store_path_read, decimal_between, limit_read, negative_read, positive_read, arg_read, path_of, store_path, limit_of, number_read, kind_read, publish_of, check_of, eval_of, made_of, request_of, IsInRange};
 ghost use Rattle.loda_mine.specs.Requests.{asked};
 

@@ -1,6 +1,8 @@
-// Faults of a run, and a call by name and argument.
+//! Faults of a run, and a call by name and argument.
+
 ghost use Rattle.std.specs.Prelude.{◌≡◌};
 ghost use Rattle.loda_semantics.specs.Exec.{fault_of};
+ghost use Rattle.loda_semantics.specs.Faults.{fault_text};
 
 use checked_numbers::{Num, NumFault};
 
@@ -24,6 +26,20 @@ impl From<NumFault> for FaultKind {
         match fault {
             NumFault::Overflow => FaultKind::Overflow,
             NumFault::DivideByZero => FaultKind::DivideByZero,
+        }
+    }
+}
+
+impl FaultKind {
+    /// The word that outputs have for it.
+    pub fn word(self) -> &'static str
+        ensures { result.now ≡ fault_text self }
+    {
+        match self {
+            FaultKind::Overflow => "overflow",
+            FaultKind::DivideByZero => "divide-by-zero",
+            FaultKind::BadCell => "bad-cell",
+            FaultKind::Missing => "missing",
         }
     }
 }

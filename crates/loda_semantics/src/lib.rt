@@ -1,4 +1,5 @@
-// What programs mean: their memory, their runs, and the laws of runs.
+//! What programs mean: their memory, their runs, and the laws of runs.
+
 #![tactic(auto)]
 
 mod kinds;

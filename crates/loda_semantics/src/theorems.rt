@@ -1,4 +1,5 @@
-// The laws of runs, each proved as the clause of a function that does nothing.
+//! The laws of runs, each proved as the clause of a function that does nothing.
+
 ghost use Rattle.loda_semantics.specs.Laws.{StepsNeverRise, DepthIsFree, TextsRunTrees, NamesRunTexts, TurnsGoOn, MoreSteps, ValuesStay, UsedStepsSuffice, ReplacementKeeps};
 ghost use Rattle.loda_semantics.specs.Examples.{FibonacciRuns, RegionOfTwoRuns, FaultsAndCycles};
 

@@ -1,4 +1,5 @@
-// The operations that the instructions name.
+//! The operations that the instructions name.
+
 ghost use Rattle.std.specs.Prelude.{◌≡◌};
 ghost use Rattle.loda_semantics.specs.Exec.{op_of as op_of_verb};
 

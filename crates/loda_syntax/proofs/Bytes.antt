@@ -12,7 +12,7 @@ use Rattle.std.proofs.lemmas.Fmt.{decimal_is_IsNumeral_wide}
 use Rattle.std.proofs.lemmas.List.{reverse-append, reverse-reverse, length-reverse, append-nil}
 use Rattle.std.proofs.Math.Seq.{take-append_seam, take-length, drop-append-add}
 use Rattle.text_parts.specs.Blanks.{is_blank, trim_front, trim_back, trim, without_return}
-use Rattle.text_parts.specs.Digits.{digits_after, number_of}
+use Rattle.text_parts.specs.Digits.{digits_after, number_spelled}
 
 -- ---- no byte passes a test
 
@@ -115,7 +115,7 @@ pub record IsDecimal (n : ℕ) (ds : List ℕ) : Type 0 where
   pub cut : ds ≡ first ∷ rest
   pub low : 48 ≤ first
   pub high : first ≤ 57
-  pub value : number_of ds ≡ Some n
+  pub value : number_spelled ds ≡ Some n
   pub plain : Plain ds
 
 by_first : (n : ℕ) (ds : List ℕ) → 0 < length ds → AllDigits 10 ds → digits_value 10 ds ≡ n → IsDecimal n ds

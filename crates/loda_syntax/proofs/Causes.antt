@@ -13,11 +13,11 @@ use Rattle.loda_syntax.specs.declared.error.ParseError.{ParseError}
 use Rattle.loda_syntax.specs.declared.error.ParseError.TheVariants as errors
 use Rattle.loda_syntax.specs.WellFormed.{IsProgram, IsBalanced, open_loops}
 use Rattle.loda_syntax.specs.Programs.{Text}
-use Rattle.loda_syntax.specs.Lines.{lines}
+use Rattle.loda_syntax.specs.Lines.{text_lines}
 use Rattle.loda_syntax.specs.Grammar.{◌>>=◌, line_read}
-use Rattle.loda_syntax.specs.Reading.{Draft, IsDraft, TextFault, open_after, add_last, draft_of, with_instr, with_line, fault_at, with_lines, closed, closed_by, blank, text_read}
-use Rattle.loda_syntax.specs.Answers.{Answers, Fails}
-use Rattle.loda_syntax.specs.Laws.{Stand, Reads, Begin, IsFirstFault, BadLine, OpenLine, BadText, IsCause}
+use Rattle.loda_syntax.specs.Reading.{Draft, IsDraft, TextFault, open_after, add_last, draft_of, with_instr, with_line, fault_at, with_lines, closed, closed_by, empty_draft, text_read}
+use Rattle.loda_syntax.specs.Answers.{ParsesAs, ParseFails}
+use Rattle.loda_syntax.specs.Laws.{Stand, IsTextOf, Begin, IsFirstFault, BadLine, OpenLine, BadText, IsCause}
 use Rattle.loda_syntax.proofs.Drafts.{next_draft, blank_draft, open_more, opened, balanced, program_of, at_line, one_line}
 use Rattle.loda_syntax.proofs.Results.{IfOk-at}
 
@@ -113,23 +113,23 @@ keeps_lines line d e (text ∷ texts) is w =
 
 -- ---- what is read
 
-begins : (texts : List (List ℕ)) (e : Draft) → with_lines 1 blank texts ≡ Ok e → Begin texts e.list
+begins : (texts : List (List ℕ)) (e : Draft) → with_lines 1 empty_draft texts ≡ Ok e → Begin texts e.list
 begins texts e w =
-    let f = follows 1 blank e texts w in
-    let is = keeps_lines 1 blank e texts blank_draft w in
+    let f = follows 1 empty_draft e texts w in
+    let is = keeps_lines 1 empty_draft e texts blank_draft w in
     record { stand = subst (Stand texts) (sym f.whole) f.stand; short = is.short; ends = rw is.loops refl }
 
 closed_none : (d : Draft) (o : List ℕ) (p : Text) → d.open_at ≡ o → closed_by d.list o ≡ Ok p → (d.open_at ≡ []) × (d.list ≡ p)
 closed_none d [] p e c = (e, cc)
 closed_none d (m ∷ ms) p e c = absurd cc
 
-pub reads : (bytes : List ℕ) (p : Text) → text_read bytes ≡ Ok p → Reads bytes p
+pub reads : (bytes : List ℕ) (p : Text) → text_read bytes ≡ Ok p → IsTextOf bytes p
 unfolding text_read
 reads bytes p e =
-    let b = bound (with_lines 1 blank (lines bytes)) closed p e in
+    let b = bound (with_lines 1 empty_draft (text_lines bytes)) closed p e in
     let c = closed_none b.0 b.0.open_at p refl b.2 in
-    let is = keeps_lines 1 blank b.0 (lines bytes) blank_draft b.1 in
-    record { stand = subst (Stand (lines bytes)) c.1 (begins (lines bytes) b.0 b.1).stand; formed = subst IsProgram c.1 (program_of b.0 is c.0) }
+    let is = keeps_lines 1 empty_draft b.0 (text_lines bytes) blank_draft b.1 in
+    record { stand = subst (Stand (text_lines bytes)) c.1 (begins (text_lines bytes) b.0 b.1).stand; formed = subst IsProgram c.1 (program_of b.0 is c.0) }
 
 -- ---- a line that is bad
 
@@ -204,10 +204,10 @@ first_fault line d kind is (Err own) e = let same : own ≡ kind = cc in sym sam
 first_fault line d kind is (Ok None) e = absurd cc
 first_fault line d kind is (Ok (Some i)) e = instr_fault line d i kind is (open_after line i d.open_at) refl e
 
-bad_line_of : (bytes : List ℕ) (fault : TextFault) → with_lines 1 blank (lines bytes) ≡ Err fault → BadLine bytes fault.line fault.kind
+bad_line_of : (bytes : List ℕ) (fault : TextFault) → with_lines 1 empty_draft (text_lines bytes) ≡ Err fault → BadLine bytes fault.line fault.kind
 unfolding with_line
 bad_line_of bytes fault e =
-    let b = bad_from 1 blank (lines bytes) fault e in
+    let b = bad_from 1 empty_draft (text_lines bytes) fault e in
     record {
       before = b.before;
       text = b.text;
@@ -216,7 +216,7 @@ bad_line_of bytes fault e =
       number = b.number;
       list = b.draft.list;
       begin = begins b.before b.draft b.good;
-      fault = first_fault fault.line b.draft fault.kind (keeps_lines 1 blank b.draft b.before blank_draft b.good) (line_read b.text) b.bad;
+      fault = first_fault fault.line b.draft fault.kind (keeps_lines 1 empty_draft b.draft b.before blank_draft b.good) (line_read b.text) b.bad;
     }
 
 -- ---- a loop that isn't ended
@@ -361,7 +361,7 @@ ends_or_starts line d e [] w =
     })
 ends_or_starts line d e (text ∷ texts) w = let f = first line d e text texts w in by_rest line d e text texts f (ends_or_starts (line + 1) f.next e texts f.rest)
 
-open_line : (bytes : List ℕ) (e : Draft) (m : ℕ) (ms : List ℕ) → with_lines 1 blank (lines bytes) ≡ Ok e → e.open_at ≡ m ∷ ms → Ends blank e (lines bytes) ⊎ Starts 1 e (lines bytes) → OpenLine bytes m
+open_line : (bytes : List ℕ) (e : Draft) (m : ℕ) (ms : List ℕ) → with_lines 1 empty_draft (text_lines bytes) ≡ Ok e → e.open_at ≡ m ∷ ms → Ends empty_draft e (text_lines bytes) ⊎ Starts 1 e (text_lines bytes) → OpenLine bytes m
 open_line bytes e m ms w is (inl n) = let none : e.open_at ≡ [] = n.open_is ∙ drop_all n.count [] (omega arith) in absurd (let bad : m ∷ ms ≡ [] = sym is ∙ none in cc)
 open_line bytes e m ms w is (inr s) =
     let all : m ∷ ms ≡ s.innermost ∷ s.outer = sym is ∙ s.open_is in
@@ -373,7 +373,7 @@ open_line bytes e m ms w is (inr s) =
       cut = s.cut;
       number = same ∙ s.number;
       list = e.list;
-      begin = begins (lines bytes) e w;
+      begin = begins (text_lines bytes) e w;
       start = s.start;
       len = s.len;
       starts = s.starts;
@@ -382,30 +382,30 @@ open_line bytes e m ms w is (inr s) =
       ended = s.ended;
     }
 
-not_closed : (bytes : List ℕ) (fault : TextFault) (d : Draft) (o : List ℕ) → with_lines 1 blank (lines bytes) ≡ Ok d → d.open_at ≡ o → closed_by d.list o ≡ Err fault → BadText bytes fault.line fault.kind
+not_closed : (bytes : List ℕ) (fault : TextFault) (d : Draft) (o : List ℕ) → with_lines 1 empty_draft (text_lines bytes) ≡ Ok d → d.open_at ≡ o → closed_by d.list o ≡ Err fault → BadText bytes fault.line fault.kind
 not_closed bytes fault d [] w is e = absurd cc
 not_closed bytes fault d (m ∷ ms) w is e =
     let same : record { line = m; kind = kinds.LoopOpen } ≡ fault = cc in
-    subst (λ (f : TextFault). BadText bytes f.line f.kind) same (inr (refl, open_line bytes d m ms w is (ends_or_starts 1 blank d (lines bytes) w)))
+    subst (λ (f : TextFault). BadText bytes f.line f.kind) same (inr (refl, open_line bytes d m ms w is (ends_or_starts 1 empty_draft d (text_lines bytes) w)))
 
-by_lines : (bytes : List ℕ) (fault : TextFault) (r : Result Draft TextFault) → with_lines 1 blank (lines bytes) ≡ r → (r >>= closed) ≡ Err fault → BadText bytes fault.line fault.kind
+by_lines : (bytes : List ℕ) (fault : TextFault) (r : Result Draft TextFault) → with_lines 1 empty_draft (text_lines bytes) ≡ r → (r >>= closed) ≡ Err fault → BadText bytes fault.line fault.kind
 by_lines bytes fault (Err f) w e = let same : f ≡ fault = cc in subst (λ (g : TextFault). BadText bytes g.line g.kind) same (inl (bad_line_of bytes f w))
 by_lines bytes fault (Ok d) w e = not_closed bytes fault d d.open_at w refl e
 
 pub faults : (bytes : List ℕ) (fault : TextFault) → text_read bytes ≡ Err fault → BadText bytes fault.line fault.kind
 unfolding text_read
-faults bytes fault e = by_lines bytes fault (with_lines 1 blank (lines bytes)) refl e
+faults bytes fault e = by_lines bytes fault (with_lines 1 empty_draft (text_lines bytes)) refl e
 
 -- ---- the answers
 
-pub answers_read : (bytes : List ℕ) (r : Result Text ParseError) → Answers r (text_read bytes) → IfOk r (λ p. Reads bytes p)
+pub answers_read : (bytes : List ℕ) (r : Result Text ParseError) → ParsesAs r (text_read bytes) → IfOk r (λ p. IsTextOf bytes p)
 answers_read bytes (Ok p) h = reads bytes p h
 answers_read bytes (Err e) h = tt
 
-cause : (bytes : List ℕ) (e : ParseError) → Fails e (text_read bytes) → IsCause bytes e
+cause : (bytes : List ℕ) (e : ParseError) → ParseFails e (text_read bytes) → IsCause bytes e
 cause bytes (errors.Syntax line kind) h = faults bytes (record { line = line; kind = kind }) h
 cause bytes errors.Memory h = tt
 
-pub answers_bad : (bytes : List ℕ) (r : Result Text ParseError) → Answers r (text_read bytes) → IfErr r (λ e. IsCause bytes e)
+pub answers_bad : (bytes : List ℕ) (r : Result Text ParseError) → ParsesAs r (text_read bytes) → IfErr r (λ e. IsCause bytes e)
 answers_bad bytes (Ok p) h = tt
 answers_bad bytes (Err e) h = cause bytes e h

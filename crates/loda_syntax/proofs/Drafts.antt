@@ -11,8 +11,8 @@ use Rattle.loda_syntax.specs.declared.error.ParseError.{ParseError}
 use Rattle.loda_syntax.specs.declared.error.ParseError.TheVariants as errors
 use Rattle.loda_syntax.specs.WellFormed.{IsInstr, IsProgram, IsBalanced, open_loops}
 use Rattle.loda_syntax.specs.Grammar.{◌>>=◌, line_read}
-use Rattle.loda_syntax.specs.Reading.{Draft, IsDraft, TextFault, open_after, add_last, draft_of, with_instr, with_line, fault_at, with_lines, blank}
-use Rattle.loda_syntax.specs.Answers.{Fails}
+use Rattle.loda_syntax.specs.Reading.{Draft, IsDraft, TextFault, open_after, add_last, draft_of, with_instr, with_line, fault_at, with_lines, empty_draft}
+use Rattle.loda_syntax.specs.Answers.{ParseFails}
 use Rattle.loda_syntax.proofs.Results.{IfOk-bind, IfOk-cond, IfOk-at}
 use Rattle.loda_syntax.proofs.Formed.{line_good}
 
@@ -27,11 +27,11 @@ stays line (Ok x) f fault e = absurd cc
 stays line (Err k) f fault e = let d : record { line = line; kind = k } ≡ fault = cc in ap (λ (z : TextFault). Err z) d
 
 -- a fault of the first step is that of both
-pub first_fails : {A B : Type 0} (line : ℕ) (r : Result A SyntaxKind) (f : A → Result B SyntaxKind) (e : ParseError) → Fails e (fault_at line r) → Fails e (fault_at line (r >>= f))
+pub first_fails : {A B : Type 0} (line : ℕ) (r : Result A SyntaxKind) (f : A → Result B SyntaxKind) (e : ParseError) → ParseFails e (fault_at line r) → ParseFails e (fault_at line (r >>= f))
 first_fails line r f errors.Memory h = tt
 first_fails line r f (errors.Syntax at_line kind) h = stays line r f _ h
 
-pub fails_so : {Y : Type 0} (line : ℕ) (kind : SyntaxKind) (e : ParseError) (read : Result Y TextFault) → e ≡ errors.Syntax line kind → read ≡ Err (record { line = line; kind = kind }) → Fails e read
+pub fails_so : {Y : Type 0} (line : ℕ) (kind : SyntaxKind) (e : ParseError) (read : Result Y TextFault) → e ≡ errors.Syntax line kind → read ≡ Err (record { line = line; kind = kind }) → ParseFails e read
 fails_so line kind e read is h = rw is h
 
 -- ---- a line
@@ -115,7 +115,7 @@ keeps_line line d text is = IfOk-bind (line_read text) (with_instr line d) (λ o
 pub next_draft : (line : ℕ) (d next : Draft) (text : List ℕ) → IsDraft d → fault_at line (with_line line d text) ≡ Ok next → IsDraft next
 next_draft line d next text is e = IfOk-at (with_line line d text) next IsDraft (at_line line (with_line line d text) next e) (keeps_line line d text is)
 
-pub blank_draft : IsDraft blank
+pub blank_draft : IsDraft empty_draft
 blank_draft = record { short = omega arith; each = λ k d h. absurd (omega arith); loops = refl }
 
 pub balanced : (is : List Instr) (depth : ℕ) → open_loops depth is ≡ Some 0 → IsBalanced depth is

@@ -16,8 +16,8 @@ use Rattle.loda_syntax.specs.declared.error.SyntaxKind.TheVariants as kinds
 use Rattle.loda_syntax.specs.WellFormed.{IsSource, IsTarget, IsInstr}
 use Rattle.loda_syntax.specs.Lines.{content, word_of, operands_of}
 use Rattle.loda_syntax.specs.Words.{word_read}
-use Rattle.text_parts.specs.Digits.{number_of}
-use Rattle.loda_syntax.specs.Grammar.{◌>>=◌, signed_by, in_memory, cell_of, with_cell, in_range, after_dollar, operand_read, good_operand, all_read, operands_read, loop_over, clear_of, call_of, instr_read, content_read, of_content, line_read, least_operands, most_operands}
+use Rattle.text_parts.specs.Digits.{number_spelled}
+use Rattle.loda_syntax.specs.Grammar.{◌>>=◌, signed_by, in_memory, cell_of, with_cell, signed_read, after_dollar, operand_read, good_operand, all_read, operands_read, loop_over, clear_of, call_of, instr_read, content_read, of_content, line_read, least_operands, most_operands}
 use Rattle.loda_syntax.proofs.Results.{IfOk-bind, IfOk-cond}
 
 -- each operand is in range
@@ -54,22 +54,22 @@ abs_signed true zero = refl
 abs_signed true (suc n) = refl
 abs_signed false n = refl
 
-range_good : (minus : Bool) (o : Option ℕ) → IsGood (in_range minus o)
+range_good : (minus : Bool) (o : Option ℕ) → IsGood (signed_read minus o)
 range_good minus None = tt
 range_good minus (Some n) = good_test (nat_lt n (2 ^ 127)) (Good (Constant (signed_by minus n))) Wide (λ e. rw abs_signed (ltb-true n (2 ^ 127) e)) tt
 
 dollar_good : (bs : List ℕ) → IsGood (after_dollar bs)
 dollar_good [] = tt
 dollar_good (b ∷ bs) =
-    good_if (nat_eq b 36) (with_cell Indirect (cell_of bs)) (with_cell Direct (cell_of (b ∷ bs))) (cell_good Indirect (λ c h. h) (number_of bs))
-    (cell_good Direct (λ c h. h) (number_of (b ∷ bs)))
+    good_if (nat_eq b 36) (with_cell Indirect (cell_of bs)) (with_cell Direct (cell_of (b ∷ bs))) (cell_good Indirect (λ c h. h) (number_spelled bs))
+    (cell_good Direct (λ c h. h) (number_spelled (b ∷ bs)))
 
 operand_good : (text : List ℕ) → IsGood (operand_read text)
 unfolding operand_read
 operand_good [] = tt
 operand_good (b ∷ bs) =
-    good_if (nat_eq b 36) (after_dollar bs) (cond (nat_eq b 45) (in_range true (number_of bs)) (in_range false (number_of (b ∷ bs)))) (dollar_good bs)
-    (good_if (nat_eq b 45) (in_range true (number_of bs)) (in_range false (number_of (b ∷ bs))) (range_good true (number_of bs)) (range_good false (number_of (b ∷ bs))))
+    good_if (nat_eq b 36) (after_dollar bs) (cond (nat_eq b 45) (signed_read true (number_spelled bs)) (signed_read false (number_spelled (b ∷ bs)))) (dollar_good bs)
+    (good_if (nat_eq b 45) (signed_read true (number_spelled bs)) (signed_read false (number_spelled (b ∷ bs))) (range_good true (number_spelled bs)) (range_good false (number_spelled (b ∷ bs))))
 
 map_good : (texts : List (List ℕ)) → AllGood (map operand_read texts)
 map_good [] = tt

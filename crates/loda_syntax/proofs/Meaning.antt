@@ -10,10 +10,10 @@ use Rattle.loda_syntax.specs.declared.error.SyntaxKind.{SyntaxKind}
 use Rattle.loda_syntax.specs.declared.error.SyntaxKind.TheVariants as kinds
 use Rattle.loda_syntax.specs.WellFormed.{IsBalanced, open_loops}
 use Rattle.loda_syntax.specs.Programs.{Text}
-use Rattle.loda_syntax.specs.Lines.{lines}
+use Rattle.loda_syntax.specs.Lines.{text_lines}
 use Rattle.loda_syntax.specs.Grammar.{line_read}
-use Rattle.loda_syntax.specs.Reading.{Draft, TextFault, open_after, draft_of, with_instr, with_line, fault_at, with_lines, closed, closed_by, blank, text_read}
-use Rattle.loda_syntax.specs.Laws.{Stand, Reads, IsFirstFault, BadLine, OpenLine, BadText, HasOneMeaning, ReadsBack}
+use Rattle.loda_syntax.specs.Reading.{Draft, TextFault, open_after, draft_of, with_instr, with_line, fault_at, with_lines, closed, closed_by, empty_draft, text_read}
+use Rattle.loda_syntax.specs.Laws.{Stand, IsTextOf, IsFirstFault, BadLine, OpenLine, BadText, HasOneMeaning, CanonReadsBack}
 use Rattle.loda_syntax.proofs.Drafts.{open_more, at_line, one_line, bad_line, no_instr, some_instr, with_one, past}
 use Rattle.loda_syntax.proofs.Causes.{goes, first, reads, faults, through_arith, through_clear, through_call}
 use Rattle.loda_syntax.proofs.Round.{reads_back}
@@ -126,10 +126,10 @@ closed_so : (d : Draft) (o : List ℕ) → length o ≡ 0 → closed_by d.list o
 closed_so d [] e = refl
 closed_so d (m ∷ ms) e = absurd (omega arith)
 
-pub reads_so : (bytes : List ℕ) (p : Text) → Reads bytes p → text_read bytes ≡ Ok p
+pub reads_so : (bytes : List ℕ) (p : Text) → IsTextOf bytes p → text_read bytes ≡ Ok p
 unfolding text_read
 reads_so bytes p r =
-    let to = reaches 1 blank (lines bytes) p 0 r.stand (loops_of p 0 r.formed.balanced) (omega (arith, r.formed.short)) in
+    let to = reaches 1 empty_draft (text_lines bytes) p 0 r.stand (loops_of p 0 r.formed.balanced) (omega (arith, r.formed.short)) in
     let shut : closed to.draft ≡ Ok p = closed_so to.draft to.draft.open_at to.open_at ∙ ap (λ (is : List Instr). Ok is) to.list in
     rw to.reads shut
 
@@ -181,11 +181,11 @@ bad_line_so : (bytes : List ℕ) (line : ℕ) (kind : SyntaxKind) → BadLine by
 unfolding text_read
 bad_line_so bytes line kind b =
     let k = some_of (open_loops 0 b.list) b.begin.ends in
-    let to = reaches 1 blank b.before b.list k.0 b.begin.stand k.1 (omega (arith, b.begin.short)) in
+    let to = reaches 1 empty_draft b.before b.list k.0 b.begin.stand k.1 (omega (arith, b.begin.short)) in
     let list : to.draft.list ≡ b.list = to.list in
     let loops : open_loops 0 to.draft.list ≡ Some (length to.draft.open_at) = ap (open_loops 0) list ∙ k.1 ∙ ap (λ (n : ℕ). Some n) (sym to.open_at) in
     let bad = first_fault_so line to.draft b.text kind loops (line_read b.text) refl (subst (λ (is : List Instr). IsFirstFault is (line_read b.text) kind) (sym list) b.fault) in
-    let whole : with_lines 1 blank (lines bytes) ≡ Err (record { line = line; kind = kind }) = ap (with_lines 1 blank) b.cut ∙ bad_after 1 blank to.draft b.before b.text b.after kind line to.reads b.number bad in
+    let whole : with_lines 1 empty_draft (text_lines bytes) ≡ Err (record { line = line; kind = kind }) = ap (with_lines 1 empty_draft) b.cut ∙ bad_after 1 empty_draft to.draft b.before b.text b.after kind line to.reads b.number bad in
     rw whole refl
 
 -- ---- a loop that isn't ended
@@ -269,8 +269,8 @@ open_line_so : (bytes : List ℕ) (line : ℕ) → OpenLine bytes line → text_
 unfolding text_read
 open_line_so bytes line b =
     let k = some_of (open_loops 0 b.list) b.begin.ends in
-    let to = reaches 1 blank (lines bytes) b.list k.0 b.begin.stand k.1 (omega (arith, b.begin.short)) in
-    let p = parts 1 blank to.draft b.before (b.text ∷ b.after) (ap (with_lines 1 blank) (sym b.cut) ∙ to.reads) in
+    let to = reaches 1 empty_draft (text_lines bytes) b.list k.0 b.begin.stand k.1 (omega (arith, b.begin.short)) in
+    let p = parts 1 empty_draft to.draft b.before (b.text ∷ b.after) (ap (with_lines 1 empty_draft) (sym b.cut) ∙ to.reads) in
     let f = first (length b.before + 1) p.between to.draft b.text b.after p.back in
     let here : f.next.open_at ≡ (length b.before + 1) ∷ p.between.open_at = starts_at (length b.before + 1) p.between f.next b.text b.start b.len b.starts f.instr f.read f.with in
     let a = above (length b.before + 1 + 1) f.next to.draft b.after b.inner f.next.open_at [] 0 f.rest b.stand refl (loops_of b.inner 0 b.ended) in
@@ -288,7 +288,7 @@ bad_so bytes line kind (inr h) = let k = h.0 in open_line_so bytes line h.1 ∙ 
 abbrev fault_of : ℕ → SyntaxKind → TextFault
 fault_of line kind = record { line = line; kind = kind }
 
-one_of : (bytes : List ℕ) (r : Result Text TextFault) → text_read bytes ≡ r → ((p : Text) × Reads bytes p) ⊎ ((line : ℕ) × (kind : SyntaxKind) × BadText bytes line kind)
+one_of : (bytes : List ℕ) (r : Result Text TextFault) → text_read bytes ≡ r → ((p : Text) × IsTextOf bytes p) ⊎ ((line : ℕ) × (kind : SyntaxKind) × BadText bytes line kind)
 one_of bytes (Ok p) e = inl (p, reads bytes p e)
 one_of bytes (Err f) e = inr (f.line, f.kind, faults bytes f e)
 
@@ -312,5 +312,5 @@ one_meaning bytes = record {
   never_both = λ p n k a b. not_both p n k (text_read bytes) (reads_so bytes p a) (bad_so bytes n k b);
 }
 
-pub reads_again : (bytes : List ℕ) (p : Text) → Reads bytes p → ReadsBack p
+pub reads_again : (bytes : List ℕ) (p : Text) → IsTextOf bytes p → CanonReadsBack p
 reads_again bytes p r = reads_back p r.formed

@@ -7,7 +7,7 @@ use Rattle.std.proofs.lemmas.List.Splits.{length-slice_split}
 use Rattle.std.proofs.lemmas.List.{length-map}
 use Rattle.loda_syntax.specs.declared.operand.Written.{Written}
 use Rattle.loda_syntax.specs.declared.error.SyntaxKind.TheVariants.{BadOperand}
-use Rattle.loda_syntax.specs.Cuts.{IsCut, IsUncut}
+use Rattle.loda_syntax.specs.Cuts.{IsFirstPass, IsUncut}
 use Rattle.text_parts.specs.Blanks.{trim}
 use Rattle.loda_syntax.specs.Lines.{cut_operands}
 use Rattle.loda_syntax.specs.Grammar.{operand_read, operands_read, all_read}
@@ -15,7 +15,7 @@ use Rattle.loda_syntax.specs.Grammar.{operand_read, operands_read, all_read}
 abbrev pub comma : ℕ → Bool
 comma b = b == 44
 
-texts_cut : (text first rest : List ℕ) → IsCut comma text first rest → cut_operands text ≡ trim first ∷ map trim (slice_split comma rest)
+texts_cut : (text first rest : List ℕ) → IsFirstPass comma text first rest → cut_operands text ≡ trim first ∷ map trim (slice_split comma rest)
 unfolding cut_operands
 texts_cut [] first rest cut = let lt : length rest < 0 = cut.shorter in absurd (omega arith)
 texts_cut (b ∷ bs) first rest cut = ap (map trim) cut.parts
@@ -47,7 +47,7 @@ two_and_more : (least : ℕ) (a b : List ℕ) (cs : List (List ℕ)) → 1 ≤ l
 unfolding operands_read all_read
 two_and_more least a b cs le = second_true _ _ _ _ _ (lt-ltb 2 (length (map operand_read (a ∷ b ∷ cs))) (simp length-map (omega arith)))
 
-pub too_many : (text first rest second last : List ℕ) → IsCut comma text first rest → IsCut comma rest second last → operands_read 2 2 (cut_operands text) ≡ Err BadOperand
+pub too_many : (text first rest second last : List ℕ) → IsFirstPass comma text first rest → IsFirstPass comma rest second last → operands_read 2 2 (cut_operands text) ≡ Err BadOperand
 too_many text first rest second last cut again =
     let e : cut_operands text ≡ trim first ∷ trim second ∷ map trim (slice_split comma last) = texts_cut text first rest cut ∙ ap (λ (ts : List (List ℕ)). trim first ∷ map trim ts) again.parts in
     let le : 1 ≤ length (map trim (slice_split comma last)) = simp length-map (more last) in
@@ -55,10 +55,10 @@ too_many text first rest second last cut again =
 
 -- ---- as many as there should be
 
-two_texts : (text first rest : List ℕ) → IsCut comma text first rest → IsUncut comma rest → cut_operands text ≡ trim first ∷ trim rest ∷ []
+two_texts : (text first rest : List ℕ) → IsFirstPass comma text first rest → IsUncut comma rest → cut_operands text ≡ trim first ∷ trim rest ∷ []
 two_texts text first rest cut last = texts_cut text first rest cut ∙ ap (λ (ts : List (List ℕ)). trim first ∷ map trim ts) last.parts
 
-pub two_read : (text first rest : List ℕ) → IsCut comma text first rest → IsUncut comma rest → operands_read 2 2 (cut_operands text) ≡ all_read 2 2 (operand_read (trim first) ∷ operand_read (trim rest) ∷ [])
+pub two_read : (text first rest : List ℕ) → IsFirstPass comma text first rest → IsUncut comma rest → operands_read 2 2 (cut_operands text) ≡ all_read 2 2 (operand_read (trim first) ∷ operand_read (trim rest) ∷ [])
 unfolding operands_read
 two_read text first rest cut last = ap (operands_read 2 2) (two_texts text first rest cut last)
 
@@ -87,7 +87,7 @@ parts_of : (xs : List (List ℕ)) → 1 ≤ length xs → (y : List ℕ) × (ys 
 parts_of [] le = absurd (omega arith)
 parts_of (y ∷ ys) le = (y, ys, refl)
 
-pub one_or_two_read : (text first rest : List ℕ) → IsCut comma text first rest → operands_read 1 2 (cut_operands text) ≡ operands_read 2 2 (cut_operands text)
+pub one_or_two_read : (text first rest : List ℕ) → IsFirstPass comma text first rest → operands_read 1 2 (cut_operands text) ≡ operands_read 2 2 (cut_operands text)
 one_or_two_read text first rest cut =
     let p = parts_of (slice_split comma rest) (more rest) in
     let e : cut_operands text ≡ trim first ∷ trim p.0 ∷ map trim p.1 = texts_cut text first rest cut ∙ ap (λ (ts : List (List ℕ)). trim first ∷ map trim ts) p.2 in

@@ -19,10 +19,10 @@ use Rattle.loda_syntax.specs.WellFormed.{IsSource, IsTarget, IsInstr, IsProgram,
 use Rattle.loda_syntax.specs.Programs.{Text}
 use Rattle.loda_syntax.specs.Words.{word_read, word_text}
 use Rattle.text_parts.specs.Blanks.{is_blank, trim, without_return}
-use Rattle.loda_syntax.specs.Lines.{lines, content, word_of, operands_of, cut_operands}
-use Rattle.text_parts.specs.Digits.{number_of}
-use Rattle.loda_syntax.specs.Grammar.{in_memory, with_cell, in_range, operand_read, least_operands, most_operands, all_read, operands_read, loop_over, clear_of, call_of, instr_read, content_read, of_content, line_read}
-use Rattle.loda_syntax.specs.Reading.{Draft, draft_of, open_after, with_line, fault_at, with_lines, blank, text_read}
+use Rattle.loda_syntax.specs.Lines.{text_lines, content, word_of, operands_of, cut_operands}
+use Rattle.text_parts.specs.Digits.{number_spelled}
+use Rattle.loda_syntax.specs.Grammar.{in_memory, with_cell, signed_read, operand_read, least_operands, most_operands, all_read, operands_read, loop_over, clear_of, call_of, instr_read, content_read, of_content, line_read}
+use Rattle.loda_syntax.specs.Reading.{Draft, draft_of, open_after, with_line, fault_at, with_lines, empty_draft, text_read}
 use Rattle.loda_syntax.specs.Canon.{operand_text, operand_texts, instr_word, instr_operands, instr_text, depth_at, depth_after, line_text, lines_text, canon}
 use Rattle.loda_syntax.proofs.Operands.{comma}
 use Rattle.loda_syntax.proofs.Drafts.{with_one, some_instr, no_instr, one_line}
@@ -33,15 +33,15 @@ use Rattle.loda_syntax.proofs.Bytes.{No, No-plain, before_all, before_here, afte
 first_is_digit : (b k : ℕ) → 48 ≤ b → k < 48 → nat_eq b k ≡ false
 first_is_digit b k le lt = ne_eqb b k (λ e. omega arith)
 
-constant_back : (n : ℕ) (ds : List ℕ) → IsDecimal n ds → operand_read ds ≡ in_range false (Some n)
+constant_back : (n : ℕ) (ds : List ℕ) → IsDecimal n ds → operand_read ds ≡ signed_read false (Some n)
 unfolding operand_read
 constant_back n ds d =
     let dollar = first_is_digit d.first 36 d.low (omega arith) in
     let dash = first_is_digit d.first 45 d.low (omega arith) in
-    let value : number_of (d.first ∷ d.rest) ≡ Some n = ap number_of (sym d.cut) ∙ d.value in
+    let value : number_spelled (d.first ∷ d.rest) ≡ Some n = ap number_spelled (sym d.cut) ∙ d.value in
     rw (d.cut, dollar, dash, value) refl
 
-minus_back : (n : ℕ) (ds : List ℕ) → IsDecimal n ds → operand_read (45 ∷ ds) ≡ in_range true (Some n)
+minus_back : (n : ℕ) (ds : List ℕ) → IsDecimal n ds → operand_read (45 ∷ ds) ≡ signed_read true (Some n)
 unfolding operand_read
 minus_back n ds d = rw d.value refl
 
@@ -49,7 +49,7 @@ direct_back : (c : ℕ) (ds : List ℕ) → IsDecimal c ds → operand_read (36 
 unfolding operand_read
 direct_back c ds d =
     let dollar = first_is_digit d.first 36 d.low (omega arith) in
-    let value : number_of (d.first ∷ d.rest) ≡ Some c = ap number_of (sym d.cut) ∙ d.value in
+    let value : number_spelled (d.first ∷ d.rest) ≡ Some c = ap number_spelled (sym d.cut) ∙ d.value in
     rw (d.cut, dollar, value) refl
 
 indirect_back : (c : ℕ) (ds : List ℕ) → IsDecimal c ds → operand_read (36 ∷ 36 ∷ ds) ≡ with_cell Indirect (in_memory (Some c))
@@ -409,7 +409,7 @@ last_line line d none =
     let same : d ≡ draft_of (d.list ++ []) [] = ap (λ (is : List Instr). draft_of is d.open_at) (sym (append-nil d.list)) ∙ ap (draft_of (d.list ++ [])) (no_open d.open_at none) in
     one_line line d d [] [] (no_instr line d [] empty_back) ∙ ap (λ (x : Draft). Ok x) same
 
-lines_back : (is : List Instr) (line depth : ℕ) (d : Draft) → length d.open_at ≡ depth → IsBalanced depth is → All IsInstr is → length d.list + length is ≤ 1000 → with_lines line d (lines (lines_text depth is)) ≡ Ok (draft_of (d.list ++ is) [])
+lines_back : (is : List Instr) (line depth : ℕ) (d : Draft) → length d.open_at ≡ depth → IsBalanced depth is → All IsInstr is → length d.list + length is ≤ 1000 → with_lines line d (text_lines (lines_text depth is)) ≡ Ok (draft_of (d.list ++ is) [])
 unfolding lines_text line_text
 lines_back [] line depth d e balanced all few = let zero_depth : depth ≡ 0 = balanced in last_line line d (e ∙ zero_depth)
 lines_back (i ∷ is) line depth d e balanced all few =
@@ -418,16 +418,16 @@ lines_back (i ∷ is) line depth d e balanced all few =
     let rest = lines_text (depth_after depth i) is in
     let o = opens line i d.open_at is (subst (λ (k : ℕ). IsBalanced k (i ∷ is)) (sym e) balanced) in
     let next = draft_of (d.list ++ i ∷ []) o.next in
-    let cut : lines ((text ++ 10 ∷ []) ++ rest) ≡ text ∷ lines rest =
-    ap lines (append_assoc text (10 ∷ []) rest) ∙ split_here (λ b. b == 10) text 10 rest (No-newline text (line_inner (2 * depth_at depth i) i good)) refl in
+    let cut : text_lines ((text ++ 10 ∷ []) ++ rest) ≡ text ∷ text_lines rest =
+    ap text_lines (append_assoc text (10 ∷ []) rest) ∙ split_here (λ b. b == 10) text 10 rest (No-newline text (line_inner (2 * depth_at depth i) i good)) refl in
     let one : fault_at line (with_line line d text) ≡ Ok next =
     ap (fault_at line) (some_instr line d text i (line_back (2 * depth_at depth i) i good)) ∙ with_one line d i o.next (ap (fault_at line) o.opens) (omega arith) in
     let deeper : length o.next ≡ depth_after depth i = o.depth ∙ ap (λ (k : ℕ). depth_after k i) e in
     let size : length (d.list ++ i ∷ []) + length is ≤ 1000 = simp length-append (omega arith) in
     let left = lines_back is (line + 1) (depth_after depth i) next deeper (subst (λ (k : ℕ). IsBalanced (depth_after k i) is) e o.balanced) (All-tail IsInstr i is all) size in
-    ap (with_lines line d) cut ∙ one_line line d next text (lines rest) one ∙ left ∙ ap (λ (js : List Instr). Ok (draft_of js [])) (append_assoc d.list (i ∷ []) is)
+    ap (with_lines line d) cut ∙ one_line line d next text (text_lines rest) one ∙ left ∙ ap (λ (js : List Instr). Ok (draft_of js [])) (append_assoc d.list (i ∷ []) is)
 
 -- the canonical text of a program reads as the program
 pub reads_back : (p : Text) → IsProgram p → text_read (canon p) ≡ Ok p
 unfolding text_read canon
-reads_back p is = rw (lines_back p 1 0 blank refl is.balanced is.each (omega (arith, is.short))) refl
+reads_back p is = rw (lines_back p 1 0 empty_draft refl is.balanced is.each (omega (arith, is.short))) refl

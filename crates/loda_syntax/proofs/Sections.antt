@@ -10,7 +10,7 @@ use Rattle.loda_syntax.specs.declared.word.Word.TheVariants as word
 use Rattle.loda_syntax.specs.WellFormed.{IsInstr, IsProgram}
 use Rattle.loda_syntax.specs.Programs.{Text}
 use Rattle.loda_syntax.specs.Words.{word_text}
-use Rattle.loda_syntax.specs.Lines.{lines}
+use Rattle.loda_syntax.specs.Lines.{text_lines}
 use Rattle.loda_syntax.specs.Sections.{IsNoHeader, NoHeaders, EndsLine, IsSection}
 use Rattle.loda_syntax.specs.Canon.{instr_word, instr_operands, operand_texts, instr_text, depth_at, depth_after, line_text, lines_text, canon}
 use Rattle.loda_syntax.proofs.Bytes.{No-newline, split_here}
@@ -44,19 +44,19 @@ unfolding instr_text
 line_start zero i = let lt = after_word (instr_word i) (operand_texts 32 (instr_operands i)) in (λ e. omega arith, λ e. omega arith)
 line_start (suc n) i = (λ e. omega arith, λ e. omega arith)
 
-no_headers : (is : List Instr) (depth : ℕ) → All IsInstr is → NoHeaders (lines (lines_text depth is))
+no_headers : (is : List Instr) (depth : ℕ) → All IsInstr is → NoHeaders (text_lines (lines_text depth is))
 unfolding lines_text line_text
 no_headers [] depth all = ((λ e. omega arith, λ e. omega arith), tt)
 no_headers (i ∷ is) depth all =
     let n = 2 * depth_at depth i in
     let text = replicate n 32 ++ instr_text i in
     let rest = lines_text (depth_after depth i) is in
-    let cut : lines ((text ++ 10 ∷ []) ++ rest) ≡ text ∷ lines rest =
-    ap lines (append_assoc text (10 ∷ []) rest) ∙ split_here (λ b. b == 10) text 10 rest (No-newline text (line_inner n i (All-head IsInstr i is all))) refl in
+    let cut : text_lines ((text ++ 10 ∷ []) ++ rest) ≡ text ∷ text_lines rest =
+    ap text_lines (append_assoc text (10 ∷ []) rest) ∙ split_here (λ b. b == 10) text 10 rest (No-newline text (line_inner n i (All-head IsInstr i is all))) refl in
     rw cut (line_start n i, no_headers is (depth_after depth i) (All-tail IsInstr i is all))
 
 -- no line of a canonical text begins with `=` or `?`
-pub canon_no_headers : (p : Text) → IsProgram p → NoHeaders (lines (canon p))
+pub canon_no_headers : (p : Text) → IsProgram p → NoHeaders (text_lines (canon p))
 unfolding canon
 canon_no_headers p is = no_headers p 0 is.each
 

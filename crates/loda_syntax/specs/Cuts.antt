@@ -3,7 +3,7 @@ use Rattle.std.specs.Prelude.{◌≡◌, ◌<◌, ℕ, List, [], ◌∷◌, leng
 use Rattle.std.specs.List.{slice_split, before_first, after_first}
 
 -- the test passes at the element between the front and the rest, and at none before it
-pub record IsCut (test : ℕ → Bool) (text front rest : List ℕ) : Type 0 where
+pub record IsFirstPass (test : ℕ → Bool) (text front rest : List ℕ) : Type 0 where
   pub front_is : front ≡ before_first test text
   pub rest_is : rest ≡ after_first test text
   pub parts : slice_split test text ≡ front ∷ slice_split test rest

@@ -15,7 +15,7 @@
 use Rattle.std.specs.Prelude.{ℕ, zero, suc, ℤ, pos, negsuc, ◌+◌, ◌-◌, ◌*◌, ◌^◌, List, [], ◌∷◌, length, map, ◌==◌, ◌||◌, ◌&&◌, nat_le, nat_lt, if◌then◌else◌, Option, Some, None, Result, Ok, Err, Bool, true, false}
 use Rattle.std.specs.Char.{is_ascii_digit}
 use Rattle.std.specs.List.{list_any, filter_map}
-use Rattle.text_parts.specs.Digits.{number_of}
+use Rattle.text_parts.specs.Digits.{number_spelled}
 use Rattle.loda_syntax.specs.Lines.{content, word_of, operands_of}
 use Rattle.loda_syntax.specs.Words.{word_read}
 use Rattle.loda_syntax.specs.declared.instr.Operand.{Operand}
@@ -54,7 +54,7 @@ in_memory (Some c) = if nat_lt c 4096 then Some c else None
 
 -- the cell that digits spell
 abbrev pub cell_of : List ℕ → Option ℕ
-cell_of digits = in_memory (number_of digits)
+cell_of digits = in_memory (number_spelled digits)
 
 -- a cell as an operand of this form, or a bad operand
 abbrev pub with_cell : (ℕ → Operand) → Option ℕ → Written
@@ -62,9 +62,9 @@ with_cell form None = Bad
 with_cell form (Some c) = Good (form c)
 
 -- a number, from its sign and its digits: of absolute value below 2 ^ 127
-abbrev pub in_range : Bool → Option ℕ → Written
-in_range minus None = Bad
-in_range minus (Some n) = if nat_lt n (2 ^ 127) then Good (Constant (signed_by minus n)) else Wide
+abbrev pub signed_read : Bool → Option ℕ → Written
+signed_read minus None = Bad
+signed_read minus (Some n) = if nat_lt n (2 ^ 127) then Good (Constant (signed_by minus n)) else Wide
 
 -- what follows a `$`: the digits of a cell, or another `$` and the digits of the cell that holds the address
 abbrev pub after_dollar : List ℕ → Written
@@ -74,7 +74,7 @@ after_dollar (b ∷ bs) = if b == 36 then with_cell Indirect (cell_of bs) else w
 -- an operand: `$` and digits, `$$` and digits, or digits with a `-` before them or none
 unfoldable pub operand_read : List ℕ → Written
 operand_read [] = Bad
-operand_read (b ∷ bs) = if b == 36 then after_dollar bs else (if b == 45 then in_range true (number_of bs) else in_range false (number_of (b ∷ bs)))
+operand_read (b ∷ bs) = if b == 36 then after_dollar bs else (if b == 45 then signed_read true (number_spelled bs) else signed_read false (number_spelled (b ∷ bs)))
 
 -- ---- a line's operands
 

@@ -1,7 +1,7 @@
 -- Which bytes are a text of which program, and which fault is a text's first.
 use Rattle.std.specs.Prelude.{◌≡◌, ℕ, ◌+◌, ◌≤◌, ◌⊎◌, List, [], ◌∷◌, ◌++◌, length, map, Option, Some, None, IsSome, Result, Ok, Err}
 use Rattle.std.specs.List.{filter_map}
-use Rattle.loda_syntax.specs.Lines.{lines}
+use Rattle.loda_syntax.specs.Lines.{text_lines}
 use Rattle.loda_syntax.specs.Grammar.{line_read}
 use Rattle.loda_syntax.specs.Programs.{Text, instrs}
 use Rattle.loda_syntax.specs.Reading.{text_read}
@@ -21,8 +21,8 @@ pub record Stand (texts : List (List ℕ)) (is : List Instr) : Type 0 where
   pub list : is ≡ filter_map (λ o. o) read
 
 -- the bytes are a text of the program: its lines are its instructions, and the list of them is well formed
-pub record Reads (bytes : List ℕ) (program : Text) : Type 0 where
-  pub stand : Stand (lines bytes) (instrs program)
+pub record IsTextOf (bytes : List ℕ) (program : Text) : Type 0 where
+  pub stand : Stand (text_lines bytes) (instrs program)
   pub formed : IsProgram (instrs program)
 
 -- the lines so far have no fault, and these are their instructions
@@ -43,7 +43,7 @@ pub record BadLine (bytes : List ℕ) (line : ℕ) (kind : SyntaxKind) : Type 0 
   pub before : List (List ℕ)
   pub text : List ℕ
   pub after : List (List ℕ)
-  pub cut : lines bytes ≡ before ++ text ∷ after
+  pub cut : text_lines bytes ≡ before ++ text ∷ after
   pub number : line ≡ length before + 1
   pub list : List Instr
   pub begin : Begin before list
@@ -54,10 +54,10 @@ pub record OpenLine (bytes : List ℕ) (line : ℕ) : Type 0 where
   pub before : List (List ℕ)
   pub text : List ℕ
   pub after : List (List ℕ)
-  pub cut : lines bytes ≡ before ++ text ∷ after
+  pub cut : text_lines bytes ≡ before ++ text ∷ after
   pub number : line ≡ length before + 1
   pub list : List Instr
-  pub begin : Begin (lines bytes) list
+  pub begin : Begin (text_lines bytes) list
   pub start : ℕ
   pub len : ℕ
   pub starts : line_read text ≡ Ok (Some (LoopStart start len))
@@ -75,16 +75,16 @@ IsCause bytes (errors.Syntax line kind) = BadText bytes line kind
 IsCause bytes errors.Memory = Unit {0}
 
 -- the canonical text of a program reads as that program
-abbrev pub ReadsBack : Text → Type 0
-ReadsBack program = text_read (canon program) ≡ Ok program
+abbrev pub CanonReadsBack : Text → Type 0
+CanonReadsBack program = text_read (canon program) ≡ Ok program
 
 -- the text has a program or a first fault, one alone, and never both
 pub record HasOneMeaning (bytes : List ℕ) : Type 0 where
-  pub some : ((program : Text) × Reads bytes program) ⊎ ((line : ℕ) × (kind : SyntaxKind) × BadText bytes line kind)
-  pub one_program : (p q : Text) → Reads bytes p → Reads bytes q → p ≡ q
+  pub some : ((program : Text) × IsTextOf bytes program) ⊎ ((line : ℕ) × (kind : SyntaxKind) × BadText bytes line kind)
+  pub one_program : (p q : Text) → IsTextOf bytes p → IsTextOf bytes q → p ≡ q
   pub one_fault : (m n : ℕ) (j k : SyntaxKind) → BadText bytes m j → BadText bytes n k → (m ≡ n) × (j ≡ k)
-  pub never_both : (p : Text) (n : ℕ) (k : SyntaxKind) → Reads bytes p → BadText bytes n k → ⊥
+  pub never_both : (p : Text) (n : ℕ) (k : SyntaxKind) → IsTextOf bytes p → BadText bytes n k → ⊥
 
 -- what the text reads as prints, and reads again as the same program
 abbrev pub ReadsAgain : List ℕ → Type 0
-ReadsAgain bytes = (program : Text) → Reads bytes program → ReadsBack program
+ReadsAgain bytes = (program : Text) → IsTextOf bytes program → CanonReadsBack program

@@ -4,8 +4,8 @@ use Rattle.std.specs.List.{slice_split, before_first, after_first}
 use Rattle.text_parts.specs.Blanks.{is_blank, trim, without_return}
 
 -- the lines, cut at each LF; what stands after the last LF is a line too, and it may be empty
-abbrev pub lines : List ℕ → List (List ℕ)
-lines text = slice_split (λ b. b == 10) text
+abbrev pub text_lines : List ℕ → List (List ℕ)
+text_lines text = slice_split (λ b. b == 10) text
 
 -- what counts of a line: what stands before the comment, which begins at the first `;`, without blanks at both ends
 unfoldable pub content : List ℕ → List ℕ

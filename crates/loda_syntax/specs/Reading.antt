@@ -1,6 +1,6 @@
 -- What a text stands for: its program, or its first fault.
 use Rattle.std.specs.Prelude.{◌≡◌, ◌≤◌, All, ℕ, ◌+◌, List, [], ◌∷◌, ◌++◌, length, nat_lt, if◌then◌else◌, Option, Some, None, Result, Ok, Err}
-use Rattle.loda_syntax.specs.Lines.{lines}
+use Rattle.loda_syntax.specs.Lines.{text_lines}
 use Rattle.loda_syntax.specs.Grammar.{◌>>=◌, line_read}
 use Rattle.loda_syntax.specs.Programs.{Text}
 use Rattle.loda_syntax.specs.WellFormed.{IsInstr, open_loops}
@@ -24,8 +24,8 @@ abbrev pub draft_of : List Instr → List ℕ → Draft
 draft_of list open_at = record { list = list; open_at = open_at }
 
 -- before the first line
-abbrev pub blank : Draft
-blank = draft_of [] []
+abbrev pub empty_draft : Draft
+empty_draft = draft_of [] []
 
 -- the draft's instructions are in range, and its open loops are those that they leave open
 pub record IsDraft (draft : Draft) : Type 0 where
@@ -68,7 +68,7 @@ with_lines line draft (text ∷ texts) = fault_at line (with_line line draft tex
 -- the list, or LoopOpen at the innermost loop that is not ended
 abbrev pub closed_by : List Instr → List ℕ → Result Text TextFault
 closed_by list [] = Ok list
-closed_by list (line ∷ lines) = Err (record { line = line; kind = kinds.LoopOpen })
+closed_by list (line ∷ text_lines) = Err (record { line = line; kind = kinds.LoopOpen })
 
 -- the program of the whole text, if each loop is ended
 abbrev pub closed : Draft → Result Text TextFault
@@ -76,4 +76,4 @@ closed draft = closed_by draft.list draft.open_at
 
 -- the program of a text, or its first fault
 unfoldable pub text_read : List ℕ → Result Text TextFault
-text_read text = with_lines 1 blank (lines text) >>= closed
+text_read text = with_lines 1 empty_draft (text_lines text) >>= closed

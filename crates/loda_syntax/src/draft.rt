@@ -2,8 +2,8 @@
 
 ghost use Rattle.std.specs.Prelude.{◌≡◌, reverse};
 ghost use Rattle.loda_syntax.specs.declared.error.ParseError.TheVariants.{Syntax};
-ghost use Rattle.loda_syntax.specs.Answers.{Answers, Gives};
-ghost use Rattle.loda_syntax.specs.Reading.{IsDraft, blank, open_after, with_instr, with_line, fault_at, closed};
+ghost use Rattle.loda_syntax.specs.Answers.{ParsesAs, ParsesAsSeen};
+ghost use Rattle.loda_syntax.specs.Reading.{IsDraft, empty_draft, open_after, with_instr, with_line, fault_at, closed};
 
 use crate::content::line_instr;
 use crate::error::{ParseError, SyntaxKind};
@@ -34,7 +34,7 @@ impl Model for Draft {
 impl Draft {
     /// The draft before the first line.
     pub(crate) fn new(alloc: Global) -> Draft
-        ensures { result ≡ blank }
+        ensures { result ≡ empty_draft }
     {
         Draft {
             list: Vec::new(alloc),
@@ -44,7 +44,7 @@ impl Draft {
 
     /// Adds a line, with its number.
     pub(crate) fn add_line(&mut self, number: u64, text: &[u8]) -> Result<(), ParseError>
-        ensures { Gives (λ _. self.new) result (fault_at number (with_line number self.old text.now)) }
+        ensures { ParsesAsSeen (λ _. self.new) result (fault_at number (with_line number self.old text.now)) }
     {
         match line_instr(text) {
             Ok(None) => Ok(()),
@@ -54,7 +54,7 @@ impl Draft {
     }
 
     fn add(&mut self, line: u64, instr: Instr) -> Result<(), ParseError>
-        ensures { Gives (λ _. self.new) result (fault_at line (with_instr line self.old (Some instr))) }
+        ensures { ParsesAsSeen (λ _. self.new) result (fault_at line (with_instr line self.old (Some instr))) }
     {
         follow(&mut self.open_at, line, &instr)?;
         if self.list.len() >= MOST_INSTRS {
@@ -67,7 +67,7 @@ impl Draft {
     /// The program of the lines, if each loop is ended.
     pub(crate) fn finish(mut self) -> Result<Program, ParseError>
         requires { IsDraft self }
-        ensures { Answers result (closed self) }
+        ensures { ParsesAs result (closed self) }
     {
         match self.open_at.pop() {
             Some(line) => Err(fault(line, SyntaxKind::LoopOpen)),
@@ -78,7 +78,7 @@ impl Draft {
 
 // Opens or ends the loop of an instruction.
 fn follow(open_at: &mut Vec<u64>, line: u64, instr: &Instr) -> Result<(), ParseError>
-    ensures { Gives (λ _. reverse open_at.new.items) result (fault_at line (open_after line instr.now (reverse open_at.old.items))) }
+    ensures { ParsesAsSeen (λ _. reverse open_at.new.items) result (fault_at line (open_after line instr.now (reverse open_at.old.items))) }
 {
     match instr {
         Instr::LoopStart { start: _, len: _ } => {

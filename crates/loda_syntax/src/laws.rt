@@ -1,7 +1,7 @@
 //! Laws of the definitions, each the clause of a function that only looks at its argument.
 
 ghost use Rattle.loda_syntax.specs.Canon.{canon};
-ghost use Rattle.loda_syntax.specs.Laws.{Reads, ReadsBack, HasOneMeaning, ReadsAgain};
+ghost use Rattle.loda_syntax.specs.Laws.{IsTextOf, CanonReadsBack, HasOneMeaning, ReadsAgain};
 ghost use Rattle.loda_syntax.specs.Programs.{instrs};
 ghost use Rattle.loda_syntax.specs.Sections.{IsSection};
 ghost use Rattle.loda_syntax.specs.Trees.{IsSpelledByTree};
@@ -11,8 +11,8 @@ use crate::program::Program;
 /// The canonical text of a program reads as that program: `parse` of what `print` adds answers an equal program, and the
 /// lines of the text are the program's instructions.
 pub fn canonical_text_reads_back(program: &Program)
-    ensures reader { ReadsBack program.now }
-    ensures relation { Reads (canon program.now) program.now }
+    ensures reader { CanonReadsBack program.now }
+    ensures relation { IsTextOf (canon program.now) program.now }
 {
     let _list = program.instrs();
 }

@@ -2,7 +2,7 @@
 
 ghost use Rattle.std.specs.Prelude.{◌≡◌, ◌==◌, ◌≤◌, length, position, IfSome, IfNone};
 ghost use Rattle.std.specs.List.{before_first, after_first};
-ghost use Rattle.loda_syntax.specs.Cuts.{IsCut, IsUncut};
+ghost use Rattle.loda_syntax.specs.Cuts.{IsFirstPass, IsUncut};
 ghost use Rattle.text_parts.specs.Blanks.{is_blank, trim_front, trim_back, trim, without_return};
 ghost use Rattle.loda_syntax.specs.Lines.{content, word_of};
 
@@ -16,7 +16,7 @@ fn place_of(text: &[u8], byte: u8) -> Option<usize>
 
 /// The bytes before the first such byte, and those after it.
 pub(crate) fn cut_at(text: &[u8], byte: u8) -> Option<(&[u8], &[u8])>
-    ensures some { IfSome result (λ parts. IsCut (λ b. b == byte) text.now parts.0.now parts.1.now) }
+    ensures some { IfSome result (λ parts. IsFirstPass (λ b. b == byte) text.now parts.0.now parts.1.now) }
     ensures none { IfNone result (IsUncut (λ b. b == byte) text.now) }
 {
     match place_of(text, byte) {

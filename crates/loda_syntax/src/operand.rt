@@ -2,8 +2,8 @@
 
 ghost use Rattle.std.specs.Prelude.{◌≡◌, ◌+◌, ◌*◌, ◌^◌, ◌≤◌, ◌<◌, min, [], ◌∷◌, List, length, MatchResult};
 ghost use Rattle.std.specs.Option.{option_map, option_to_list};
-ghost use Rattle.text_parts.specs.Digits.{number_of};
-ghost use Rattle.loda_syntax.specs.Grammar.{cell_of, in_range, operand_read, operands_read, all_read};
+ghost use Rattle.text_parts.specs.Digits.{number_spelled};
+ghost use Rattle.loda_syntax.specs.Grammar.{cell_of, signed_read, operand_read, operands_read, all_read};
 ghost use Rattle.loda_syntax.specs.Lines.{cut_operands};
 
 use crate::error::SyntaxKind;
@@ -34,7 +34,7 @@ fn cell_of(digits: &[u8]) -> Option<u16>
 }
 
 fn constant_of(minus: bool, digits: &[u8]) -> Written
-    ensures { result ≡ in_range minus (number_of digits.now) }
+    ensures { result ≡ signed_read minus (number_spelled digits.now) }
 {
     let Some(number) = number_up_to(digits, WIDE) else {
         return Written::Bad;

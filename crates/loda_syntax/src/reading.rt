@@ -2,8 +2,8 @@
 
 ghost use Rattle.std.specs.Prelude.{◌≡◌, ◌<◌, ◌^◌, ◌+◌, length, reverse, IfOk, IfErr};
 ghost use Rattle.loda_syntax.specs.Reading.{text_read, with_instr, with_line, open_after, fault_at};
-ghost use Rattle.loda_syntax.specs.Answers.{Answers};
-ghost use Rattle.loda_syntax.specs.Laws.{Reads, IsCause};
+ghost use Rattle.loda_syntax.specs.Answers.{ParsesAs};
+ghost use Rattle.loda_syntax.specs.Laws.{IsTextOf, IsCause};
 
 use crate::draft::Draft;
 use crate::error::ParseError;
@@ -12,7 +12,7 @@ use crate::program::Program;
 use std::alloc::Global;
 
 fn read(alloc: Global, text: &[u8]) -> Result<Program, ParseError>
-    ensures { Answers result (text_read text.now) }
+    ensures { ParsesAs result (text_read text.now) }
 {
     let mut draft = Draft::new(alloc);
     let mut rest = text;
@@ -32,8 +32,8 @@ fn read(alloc: Global, text: &[u8]) -> Result<Program, ParseError>
 /// comment from `;` on, leading zeros and a CR at a line's end have no meaning. `lpb $c` stands for `lpb $c,1`.
 /// The bytes may be any; those of no text are read as any others.
 pub fn parse(alloc: Global, text: &[u8]) -> Result<Program, ParseError>
-    ensures value { Answers result (text_read text.now) }
-    ensures reads { IfOk result (λ program. Reads text.now program) }
+    ensures value { ParsesAs result (text_read text.now) }
+    ensures reads { IfOk result (λ program. IsTextOf text.now program) }
     ensures bad { IfErr result (λ error. IsCause text.now error) }
 {
     read(alloc, text)

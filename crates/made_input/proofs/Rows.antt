@@ -6,7 +6,7 @@ use Rattle.std.proofs.lemmas.List.{length_push}
 use Rattle.std.proofs.lemmas.List.Elements.{All-nil, All-push}
 use Rattle.std.proofs.lemmas.List.Sorted.{IsPermutation-refl}
 use Rattle.std.proofs.lemmas.List.Sums.{sum_by_push}
-use Rattle.oeis_terms.specs.Table.{Row, IsRow, IsAscending, IsBounded, NamesDiffer, by_name}
+use Rattle.oeis_terms.specs.Table.{Row, IsRow, HasAscendingNames, IsBounded, NamesDiffer, by_name}
 use Rattle.oeis_terms.proofs.Sorting.{sorted_is_by_name}
 use Rattle.made_input.specs.Values.{term, first_terms, row, rows, made_table}
 
@@ -31,7 +31,7 @@ each_push : (P : Row → Type 0) (rs : List Row) (x : Row) → AllByRecursion P 
 each_push P [] x h k = (k, tt)
 each_push P (r ∷ rs) x h k = (h.0, each_push P rs x h.1 k)
 
-ascending_push : (rs : List Row) (x : Row) → IsAscending rs → AllByRecursion (λ (s : Row). s.0 < x.0) rs → IsAscending (rs ++ x ∷ [])
+ascending_push : (rs : List Row) (x : Row) → HasAscendingNames rs → AllByRecursion (λ (s : Row). s.0 < x.0) rs → HasAscendingNames (rs ++ x ∷ [])
 ascending_push [] x h k = (tt, tt)
 ascending_push (r ∷ rs) x h k = (each_push (λ (s : Row). r.0 < s.0) rs x h.0 k.0, ascending_push rs x h.1 k.1)
 
@@ -39,7 +39,7 @@ names_below : (n m : ℕ) → n < m → AllByRecursion (λ (s : Row). s.0 < m) (
 names_below zero m lt = tt
 names_below (suc i) m lt = each_push (λ (s : Row). s.0 < m) (rows i) (row i) (names_below i m (omega (arith, lt))) (omega (arith, lt))
 
-ascending : (n : ℕ) → IsAscending (rows n)
+ascending : (n : ℕ) → HasAscendingNames (rows n)
 ascending zero = tt
 ascending (suc i) = ascending_push (rows i) (row i) (ascending i) (names_below i (i + 1) (omega arith))
 

@@ -24,6 +24,7 @@ terms_text (suc i) = terms_text i ++ row_text i
 unfoldable pub candidate_text : Proposal → List ℕ
 candidate_text p = codes "? " ++ name_text p.name ++ codes "\n" ++ canon p.program
 
+-- the texts of the first so many candidates, one after the other
 unfoldable pub each_text : (ℕ → Proposal) → ℕ → List ℕ
 each_text p zero = []
 each_text p (suc i) = each_text p i ++ candidate_text (p i)

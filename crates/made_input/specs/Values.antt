@@ -19,6 +19,7 @@ first_terms i (suc k) = first_terms i k ++ pos (term i k) ∷ []
 abbrev pub row : ℕ → Row
 row i = (i + 1, first_terms i 10)
 
+-- the first so many rows
 abbrev pub rows : ℕ → List Row
 rows zero = []
 rows (suc i) = rows i ++ row i ∷ []
@@ -36,6 +37,7 @@ made_store (suc i) = put_in (made_store i) (i + 1) (first_program i) 10
 abbrev pub first : ℕ → Proposal
 first i = record { name = i + 1; program = first_program i }
 
+-- the plain program of a place, as a proposal
 abbrev pub plain : ℕ → Proposal
 plain i = record { name = i + 1; program = plain_program i }
 

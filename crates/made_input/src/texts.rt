@@ -7,11 +7,10 @@ ghost use Rattle.made_input.specs.Texts.{term_texts, row_text, terms_text, candi
 
 use crate::programs::{first_program, plain_program};
 use crate::values::{made_store, term};
-use itoa::Buffer;
 use loda_syntax::{Program, print};
 use program_store::print_store;
 use std::alloc::{AllocError, Global};
-use text_parts::name_text;
+use text_parts::{name_text, write_count};
 
 // Adds the line of a place.
 #[tactic(auto, unfolding(crate::specs::Texts::row_text))]
@@ -32,8 +31,7 @@ fn write_terms(out: &mut Vec<u8>, place: u32) -> Result<(), AllocError>
     ensures { OnOk result (out.new.items ≡ out.old.items ++ term_texts place 10) }
 {
     for k in 0..10 {
-        let mut digits = Buffer::new();
-        out.extend_from_slice(digits.format(term(place, k)).as_bytes())?;
+        write_count(out, u64::from(term(place, k)))?;
         out.extend_from_slice(b",")?;
     }
     Ok(())

@@ -1,13 +1,13 @@
 //! A made table, a made store and made candidates.
 
-ghost use Rattle.std.specs.Prelude.{◌≡◌, ◌<◌, ◌≤◌, ◌+◌, pos, IfOk, OnOk};
+ghost use Rattle.std.specs.Prelude.{◌≡◌, ◌<◌, ◌≤◌, ◌+◌, IfOk, OnOk};
 ghost use Rattle.oeis_terms.specs.Table.{IsBounded};
 ghost use Rattle.program_store.specs.Store.{put_in};
 ghost use Rattle.made_input.specs.Programs.{first_program};
 ghost use Rattle.made_input.specs.Values.{term, first_terms, made_table, made_store, made_candidates};
 
 use crate::programs::{first_program, plain_program};
-use checked_numbers::Num;
+use checked_numbers::{Num, number_of};
 use oeis_terms::{Row, TermTable};
 use program_store::{Candidates, Proposal, Published, Store};
 use std::alloc::{AllocError, Global};
@@ -19,15 +19,6 @@ pub fn term(place: u32, k: u32) -> u32
     ensures { result ≡ term place k }
 {
     (place + 1) * k + place
-}
-
-fn number_of(value: u32) -> Num
-    ensures { result ≡ pos value }
-{
-    match Num::new(i128::from(value)) {
-        Some(number) => number,
-        None => unreachable!(),
-    }
 }
 
 // The ten terms of a place.

@@ -8,11 +8,11 @@ use Rattle.term_index.specs.declared.form.Form.{Form}
 use Rattle.term_index.specs.declared.form.Form.TheVariants.{Direct, Difference, Sum, Linear}
 
 -- the text that a form makes of a program
-abbrev pub text_of : Form → Text → Text
-text_of Direct p = p
-text_of Difference p = difference p
-text_of Sum p = sum p
-text_of (Linear a b) p = linear p a b
+abbrev pub form_text : Form → Text → Text
+form_text Direct p = p
+form_text Difference p = difference p
+form_text Sum p = sum p
+form_text (Linear a b) p = linear p a b
 
 -- Difference and Sum are for programs without indirect cells
 abbrev pub is_for : Form → Text → Bool
@@ -31,7 +31,7 @@ if_small q = if is_small q then Some q else None
 
 -- the composed program, where there is one
 abbrev pub composed : Form → Text → Option Text
-composed form p = if is_for form p then if_small (text_of form p) else None
+composed form p = if is_for form p then if_small (form_text form p) else None
 
 -- what the composed program means
 abbrev pub Means : Form → Text → Text → Type 0

@@ -7,7 +7,7 @@ use Rattle.loda_syntax.specs.Programs.{Text}
 use Rattle.loda_syntax.specs.WellFormed.{IsProgram}
 use Rattle.loda_semantics.specs.Exec.{Library}
 use Rattle.minimiser.specs.Cuts.{cut_at}
-use Rattle.minimiser.specs.Minimum.{is_good, first_good, made_of, after_cuts, minimum}
+use Rattle.minimiser.specs.Minimum.{is_good, first_good, minimum_of, after_cuts, minimum}
 use Rattle.minimiser.specs.Laws.{HasNoGoodCut, IsFirstGoodCut, MinimumUnfolds}
 use Rattle.minimiser.specs.Given.{AreGiven, is_good_for, if_good}
 use Rattle.minimiser.specs.declared.minimising.Given.{Given}
@@ -27,8 +27,8 @@ no_instr : (lib : Library) (args : List ℤ) (limit : ℕ) (p : Text) → length
 no_instr lib args limit [] h = refl
 no_instr lib args limit (i ∷ is) h = absurd (omega arith)
 
-made_none : (more : Text → Text) (p : Text) (o : Option Text) → o ≡ None → made_of more p o ≡ p
-made_none more p o e = ap (made_of more p) e
+made_none : (more : Text → Text) (p : Text) (o : Option Text) → o ≡ None → minimum_of more p o ≡ p
+made_none more p o e = ap (minimum_of more p) e
 
 after_none : (lib : Library) (args : List ℤ) (limit most : ℕ) (p : Text) → first_good lib args limit p ≡ None → after_cuts lib args limit most p ≡ p
 unfolding after_cuts
@@ -49,7 +49,7 @@ same_after lib args limit (suc m) (suc n) p h k =
   where
     by_cut : (o : Option Text) → first_good lib args limit p ≡ o
         → ((q : Text) → length q ≤ m → length q ≤ n → after_cuts lib args limit m q ≡ after_cuts lib args limit n q)
-        → made_of (after_cuts lib args limit m) p o ≡ made_of (after_cuts lib args limit n) p o
+        → minimum_of (after_cuts lib args limit m) p o ≡ minimum_of (after_cuts lib args limit n) p o
     by_cut None e same = refl
     by_cut (Some q) e same = let shorter = length-first lib args limit p q e in same q (omega arith) (omega arith)
 
@@ -64,7 +64,7 @@ minimum_some lib args limit p q e = by_length (length p) (length-first lib args 
     by_length : (n : ℕ) → length q < n → length p ≡ n → after_cuts lib args limit n p ≡ after_cuts lib args limit (length q) q
     by_length zero lt is = absurd (omega arith)
     by_length (suc n) lt is =
-        ap (made_of (after_cuts lib args limit n) p) e ∙ same_after lib args limit n (length q) q (omega arith) (omega arith)
+        ap (minimum_of (after_cuts lib args limit n) p) e ∙ same_after lib args limit n (length q) q (omega arith) (omega arith)
 
 pub none_good : (lib : Library) (args : List ℤ) (limit : ℕ) (p : Text) → first_good lib args limit p ≡ None → HasNoGoodCut lib args limit p
 none_good lib args limit p e place q cut good =

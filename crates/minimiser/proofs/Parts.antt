@@ -9,7 +9,7 @@ use Rattle.loda_syntax.specs.declared.instr.Instr.{Instr}
 use Rattle.loda_syntax.specs.declared.instr.Instr.TheVariants.{Arith, Clear, LoopStart, LoopEnd, Call}
 use Rattle.loda_syntax.specs.Programs.{Text}
 use Rattle.loda_syntax.specs.WellFormed.{IsInstr, IsBalanced, IsProgram}
-use Rattle.minimiser.specs.Cuts.{behind_loop, behind, cut_at}
+use Rattle.minimiser.specs.Cuts.{behind_loop, rest_behind, cut_at}
 use Rattle.minimiser.specs.Laws.{IsPart, IsCut}
 
 -- ---- from the left to the right
@@ -60,7 +60,7 @@ one i depth is rest part h e =
       balanced = subst (λ (xs : List Instr). IsBalanced depth xs) same h;
     }
 
-pub begins : (is rest : List Instr) (depth : ℕ) → behind is ≡ Some rest → IsBalanced depth is → Begins depth is rest
+pub begins : (is rest : List Instr) (depth : ℕ) → rest_behind is ≡ Some rest → IsBalanced depth is → Begins depth is rest
 begins [] rest depth e h = absurd (let z : None ≡ Some rest = e in cc)
 begins (LoopEnd ∷ is) rest depth e h = absurd (let z : None ≡ Some rest = e in cc)
 begins (Arith v t s ∷ is) rest depth e h = one (Arith v t s) depth is rest refl h e
@@ -98,7 +98,7 @@ under LoopEnd zero xs ys keeps h = h
 under LoopEnd (suc depth) xs ys keeps h = keeps depth h
 under (Call t q) depth xs ys keeps h = keeps depth h
 
-balanced_cut : (is : List Instr) (place depth : ℕ) (rest : List Instr) → behind (drop place is) ≡ Some rest → IsBalanced depth is
+balanced_cut : (is : List Instr) (place depth : ℕ) (rest : List Instr) → rest_behind (drop place is) ≡ Some rest → IsBalanced depth is
     → IsBalanced depth (take place is ++ rest)
 balanced_cut is zero depth rest e h = (begins is rest depth e h).balanced
 balanced_cut [] (suc place) depth rest e h = absurd (let z : None ≡ Some rest = e in cc)
@@ -122,7 +122,7 @@ length-behind_loop (LoopEnd ∷ is) (suc depth) = omega (arith, length-behind_lo
 length-one : (is rest : List Instr) → Some is ≡ Some rest → length rest < length is + 1
 length-one is rest e = let same : is ≡ rest = cc in omega (arith, ap length same)
 
-pub length-behind : (is rest : List Instr) → behind is ≡ Some rest → length rest < length is
+pub length-behind : (is rest : List Instr) → rest_behind is ≡ Some rest → length rest < length is
 length-behind [] rest e = absurd (let z : None ≡ Some rest = e in cc)
 length-behind (LoopEnd ∷ is) rest e = absurd (let z : None ≡ Some rest = e in cc)
 length-behind (Arith v t s ∷ is) rest e = omega (arith, length-one is rest e)
@@ -140,8 +140,8 @@ pub mapped : {X Y : Type 0} (f : X → Y) (o : Option X) (y : Y) → option_map 
 mapped f None y e = absurd (let z : None ≡ Some y = e in cc)
 mapped f (Some x) y e = record { from = x; is = refl; gives = let z : Some (f x) ≡ Some y = e in cc }
 
-pub rest_of_cut : (p : Text) (place : ℕ) (q : Text) → cut_at p place ≡ Some q → Mapped (λ rest. take place p ++ rest) (behind (drop place p)) q
-rest_of_cut p place q e = mapped (λ rest. take place p ++ rest) (behind (drop place p)) q e
+pub rest_of_cut : (p : Text) (place : ℕ) (q : Text) → cut_at p place ≡ Some q → Mapped (λ rest. take place p ++ rest) (rest_behind (drop place p)) q
+rest_of_cut p place q e = mapped (λ rest. take place p ++ rest) (rest_behind (drop place p)) q e
 
 pub length-cut : (p : Text) (place : ℕ) (q : Text) → cut_at p place ≡ Some q → length q < length p
 length-cut p place q e =
@@ -151,7 +151,7 @@ length-cut p place q e =
     omega (arith, ap length m.gives, length-append (take place p) m.from, length-append (take place p) (drop place p), front, shorter)
 
 -- what is left is a program
-pub program-cut : (p rest : List Instr) (place : ℕ) → behind (drop place p) ≡ Some rest → IsProgram p → IsProgram (take place p ++ rest)
+pub program-cut : (p rest : List Instr) (place : ℕ) → rest_behind (drop place p) ≡ Some rest → IsProgram p → IsProgram (take place p ++ rest)
 program-cut p rest place e is =
     let from = balanced_from p place 0 is.balanced in
     let b = begins (drop place p) rest from.0 e from.1 in
@@ -195,7 +195,7 @@ loop_found (LoopStart c n ∷ is) rest depth h = loop_found is rest (suc depth) 
 loop_found (LoopEnd ∷ is) rest zero h = absurd h
 loop_found (LoopEnd ∷ is) rest (suc depth) h = loop_found is rest depth h
 
-found : (part rest : List Instr) → IsPart part → behind (part ++ rest) ≡ Some rest
+found : (part rest : List Instr) → IsPart part → rest_behind (part ++ rest) ≡ Some rest
 found [] rest h = absurd h
 found (LoopEnd ∷ is) rest h = absurd h
 found (Arith v t s ∷ is) rest h = ap (λ (xs : List Instr). Some (xs ++ rest)) h
@@ -211,7 +211,7 @@ cut_to p place q c =
     ap (λ (n : ℕ). drop n p) c.begins ∙ ap (drop (length c.front)) c.whole ∙ drop-append_seam c.front (c.part ++ c.rest) in
     let before : take place p ≡ c.front =
     ap (λ (n : ℕ). take n p) c.begins ∙ ap (take (length c.front)) c.whole ∙ take-append_seam c.front (c.part ++ c.rest) in
-    let rest : behind (drop place p) ≡ Some c.rest = ap behind behind_it ∙ found c.part c.rest c.is_part in
+    let rest : rest_behind (drop place p) ≡ Some c.rest = ap rest_behind behind_it ∙ found c.part c.rest c.is_part in
     ap (λ (o : Option (List Instr)). option_map (λ rest. take place p ++ rest) o) rest ∙ ap (λ (xs : List Instr). Some (xs ++ c.rest)) before
     ∙ ap (λ (xs : List Instr). Some xs) (sym c.left)
 

@@ -19,6 +19,7 @@ use Rattle.minimiser.specs.Laws.{KeepsValues}
 use Rattle.minimiser.specs.Given.{AreGiven, is_good_for}
 use Rattle.seq_calls.specs.declared.outcomes.Outcome.TheVariants as told_as
 use Rattle.seq_calls.specs.Frames.{told}
+use Rattle.seq_calls.proofs.Values.{told_value}
 
 and_false : (a : Bool) → (a && false) ≡ false
 and_false true = refl
@@ -139,11 +140,6 @@ bad_at lib args limit p q x there never = by_test (is_good lib args limit p q) r
         (passes_at (λ (x : ℤ). is_no_worse (run_text lib p x limit).0 (run_text lib q x limit).0) args x e there))
 
 -- ---- the given values, one by one
-
-pub told_value : (o : Outcome) (v : ℤ) (n : ℕ) → told o ≡ told_as.Value v n → o ≡ value v n
-told_value (value w m) v n e = let z : told_as.Value w m ≡ told_as.Value v n = e in cc
-told_value (fault k m) v n e = absurd (let z : told_as.Fault k m ≡ told_as.Value v n = e in cc)
-told_value (out m) v n e = absurd (let z : told_as.OutOfSteps ≡ told_as.Value v n = e in cc)
 
 pub given_more : (lib : Library) (args : List ℤ) (limit : ℕ) (p : Text) (given : List Given) (i : ℕ) (x v : ℤ) (u : ℕ) → i < length args
     → x ≡ get_or args i x → AreGiven lib (take i args) limit p given → (run_text lib p x limit).0 ≡ value v u

@@ -19,17 +19,17 @@ behind_loop depth (Clear c n ∷ is) = behind_loop depth is
 behind_loop depth (Call t q ∷ is) = behind_loop depth is
 
 -- what follows the instruction, or the loop whole, that the list begins with; none where it begins with the end of a loop
-abbrev pub behind : List Instr → Option (List Instr)
-behind [] = None
-behind (LoopStart c n ∷ is) = Some (behind_loop 0 is)
-behind (LoopEnd ∷ is) = None
-behind (Arith v t s ∷ is) = Some is
-behind (Clear c n ∷ is) = Some is
-behind (Call t q ∷ is) = Some is
+abbrev pub rest_behind : List Instr → Option (List Instr)
+rest_behind [] = None
+rest_behind (LoopStart c n ∷ is) = Some (behind_loop 0 is)
+rest_behind (LoopEnd ∷ is) = None
+rest_behind (Arith v t s ∷ is) = Some is
+rest_behind (Clear c n ∷ is) = Some is
+rest_behind (Call t q ∷ is) = Some is
 
 -- the program without what begins at a place
 abbrev pub cut_at : Text → ℕ → Option Text
-cut_at p place = option_map (λ rest. take place p ++ rest) (behind (drop place p))
+cut_at p place = option_map (λ rest. take place p ++ rest) (rest_behind (drop place p))
 
 -- the programs that its cuts leave, in the order of the places at which these begin
 abbrev pub cuts : Text → List Text

@@ -25,14 +25,14 @@ abbrev pub first_good : Library → List ℤ → ℕ → Text → Option Text
 first_good lib args limit p = find (is_good lib args limit p) (cuts p)
 
 -- the program where there is no other one, else what is made of that
-abbrev pub made_of : (Text → Text) → Text → Option Text → Text
-made_of more p None = p
-made_of more p (Some q) = more q
+abbrev pub minimum_of : (Text → Text) → Text → Option Text → Text
+minimum_of more p None = p
+minimum_of more p (Some q) = more q
 
 -- what at most so many first good cuts leave, each taken of what the one before it left
 unfoldable pub after_cuts : Library → List ℤ → ℕ → ℕ → Text → Text
 after_cuts lib args limit zero p = p
-after_cuts lib args limit (suc most) p = made_of (after_cuts lib args limit most) p (first_good lib args limit p)
+after_cuts lib args limit (suc most) p = minimum_of (after_cuts lib args limit most) p (first_good lib args limit p)
 
 -- Each cut takes out an instruction at least, so there are no more of them than instructions.
 abbrev pub minimum : Library → List ℤ → ℕ → Text → Text

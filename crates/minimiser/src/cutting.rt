@@ -1,7 +1,7 @@
 //! Cuts of a program.
 
 ghost use Rattle.std.specs.Prelude.{◌≡◌, ◌≤◌, length, IfOk, MatchOption, Some, None};
-ghost use Rattle.minimiser.specs.Cuts.{behind_loop, behind, cut_at};
+ghost use Rattle.minimiser.specs.Cuts.{behind_loop, rest_behind, cut_at};
 
 use loda_syntax::{Instr, Program};
 use std::alloc::{AllocError, Global};
@@ -28,7 +28,7 @@ fn behind_loop(list: &[Instr]) -> &[Instr]
 
 // What follows the instruction, or the loop whole, that the list begins with.
 fn behind(list: &[Instr]) -> Option<&[Instr]>
-    ensures { MatchOption result (behind list.now ≡ None) (λ rest. behind list.now ≡ Some rest.now) }
+    ensures { MatchOption result (rest_behind list.now ≡ None) (λ rest. rest_behind list.now ≡ Some rest.now) }
 {
     match list {
         [] => None,

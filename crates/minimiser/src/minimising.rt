@@ -1,6 +1,6 @@
 //! Taking good cuts until there is none.
 
-ghost use Rattle.std.specs.Prelude.{◌≡◌, ◌≤◌, ◌↔◌, ℕ, length, IfOk, MatchOption, IsTrue, false};
+ghost use Rattle.std.specs.Prelude.{◌≡◌, ◌≤◌, length, IfOk, MatchOption, false};
 ghost use Rattle.loda_syntax.specs.Programs.{Text};
 ghost use Rattle.minimiser.specs.Cuts.{cut_at};
 ghost use Rattle.minimiser.specs.Minimum.{is_good, first_good, minimum};
@@ -50,16 +50,6 @@ fn given_values<B: Library, L: Ledger>(
     Ok(Some(given))
 }
 
-// Whether it is this value, in whatever steps.
-fn is_value(outcome: Outcome, value: Num) -> bool
-    ensures { IsTrue result ↔ ((used : ℕ) × (outcome ≡ Outcome.Value value used)) }
-{
-    match outcome {
-        Outcome::Value { value: other, .. } => other.get() == value.get(),
-        _ => false,
-    }
-}
-
 // Whether a program gives these values too, each within the steps that it took. What takes more steps is cut off there.
 fn is_good<B: Library, L: Ledger>(
     alloc: Global,
@@ -73,7 +63,7 @@ fn is_good<B: Library, L: Ledger>(
 {
     for known in given {
         let outcome = evaluate_text(alloc, lib, program, known.arg, known.steps, steps)?;
-        if !is_value(outcome, known.value) {
+        if !outcome.is_value(known.value) {
             return Ok(false);
         }
     }

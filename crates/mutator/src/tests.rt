@@ -1,7 +1,7 @@
 //! Each line of the table of changes, by words that reach it.
 
 use super::*;
-use loda_syntax::{Instr, Operand, Program, Verb};
+use loda_syntax::{Program, parse, print};
 use std::alloc::Global;
 use std::process::Abort;
 use word_stream::{Draws, Listed};
@@ -11,220 +11,124 @@ const MARK: u32 = 999_983;
 
 const NAMES: [u32; 3] = [45, 290, 16_742];
 
-const GREATEST: i128 = 170_141_183_460_469_231_731_687_303_715_884_105_727;
-
-fn arith(verb: Verb, target: u16, source: Operand) -> Instr {
-    Instr::Arith {
-        verb,
-        target: Operand::Direct(target),
-        source,
-    }
-}
-
-fn cells(verb: Verb, target: u16, source: u16) -> Instr {
-    arith(verb, target, Operand::Direct(source))
-}
-
-fn constant(verb: Verb, target: u16, value: i128) -> Instr {
-    arith(verb, target, Operand::Constant(value))
-}
-
-fn lpb(start: u16) -> Instr {
-    Instr::LoopStart { start, len: 1 }
-}
-
-fn seq(target: u16, name: u32) -> Instr {
-    Instr::Call {
-        target: Operand::Direct(target),
-        name,
-    }
-}
-
-fn clr(start: u16, count: u16) -> Instr {
-    Instr::Clear { start, count }
-}
-
-fn program(rt: &impl Abort, alloc: Global, list: &[Instr]) -> Program {
-    let list = list.to_vec(alloc).expect(rt, "instructions");
-    Program::new(list).ok().expect(rt, "a program")
-}
-
 fn marked(rt: &impl Abort, alloc: Global, words: &[u32]) -> Draws<Listed> {
     let mut list = words.to_vec(alloc).expect(rt, "words");
     list.push(MARK).expect(rt, "the mark");
     Draws::new(Listed::new(list))
 }
 
-fn unnamed(rt: &impl Abort, alloc: Global, given: &[Instr], words: &[u32], want: &[Instr]) {
+fn program(rt: &impl Abort, alloc: Global, text: &[u8]) -> Program {
+    parse(alloc, text).ok().expect(rt, "a program")
+}
+
+fn shows(rt: &impl Abort, alloc: Global, made: &Program, draws: &mut Draws<Listed>, want: &[u8]) {
+    let mut text = Vec::new(alloc);
+    print(made, &mut text).expect(rt, "a text");
+    assert!(rt; text.as_slice() == want, "{made:?}");
+    assert_eq!(rt; draws.below(4_294_967_295), MARK, "{made:?}");
+}
+
+fn unnamed(rt: &impl Abort, alloc: Global, given: &[u8], words: &[u32], want: &[u8]) {
     let mut draws = marked(rt, alloc, words);
     let given = program(rt, alloc, given);
     let made = mutate(alloc, &given, &mut draws, &[]).expect(rt, "memory");
-    assert!(rt; made.instrs() == want, "from {words:?}: {made:?}");
-    assert_eq!(rt; draws.below(4_294_967_295), MARK, "from {words:?}");
+    shows(rt, alloc, &made, &mut draws, want);
 }
 
-fn named(rt: &impl Abort, alloc: Global, given: &[Instr], words: &[u32], want: &[Instr]) {
+fn named(rt: &impl Abort, alloc: Global, given: &[u8], words: &[u32], want: &[u8]) {
     let mut draws = marked(rt, alloc, words);
     let given = program(rt, alloc, given);
     let made = mutate(alloc, &given, &mut draws, &NAMES).expect(rt, "memory");
-    assert!(rt; made.instrs() == want, "from {words:?}: {made:?}");
-    assert_eq!(rt; draws.below(4_294_967_295), MARK, "from {words:?}");
+    shows(rt, alloc, &made, &mut draws, want);
 }
 
 #[test]
 fn mutated_square(rt: HostRuntime) {
-    let square = cells(Verb::Mul, 0, 0);
+    let want = b"mul $0,$0\nadd $0,1\n";
     unnamed(
         &rt,
         rt.alloc(),
-        &[square],
+        b"mul $0,$0\n",
         &[0, 1, 1, 1, 0, 4, 3],
-        &[square, constant(Verb::Add, 0, 1)],
+        want,
     );
 }
 
 #[test]
 fn drawn_anew(rt: HostRuntime) {
     let alloc = rt.alloc();
-    let given = [
-        cells(Verb::Mul, 0, 0),
-        constant(Verb::Sub, 1, 5),
-        lpb(0),
-        Instr::LoopEnd,
-        seq(1, 45),
-        clr(1, 2),
-    ];
-    let [first, _, third, fourth, fifth, sixth] = given;
-    unnamed(
-        &rt,
-        alloc,
-        &given,
-        &[0, 0, 7, 2, 1, 2],
-        &[first, cells(Verb::Sub, 1, 2), third, fourth, fifth, sixth],
-    );
+    let given = b"mul $0,$0\nsub $1,5\nlpb $0\nlpe\nseq $1,45\nclr $1,2\n";
+    let source = b"mul $0,$0\nsub $1,$2\nlpb $0\nlpe\nseq $1,45\nclr $1,2\n";
+    unnamed(&rt, alloc, given, &[0, 0, 7, 2, 1, 2], source);
     // No other instruction is drawn anew, and nothing more is drawn.
-    unnamed(&rt, alloc, &given, &[1, 0, 2, 0, 3], &given);
-    unnamed(&rt, alloc, &given, &[1, 0, 4, 0, 5], &given);
+    unnamed(&rt, alloc, given, &[1, 0, 2, 0, 3], given);
+    unnamed(&rt, alloc, given, &[1, 0, 4, 0, 5], given);
     // Its target alone.
-    unnamed(
-        &rt,
-        alloc,
-        &given,
-        &[0, 4, 1, 6],
-        &[
-            first,
-            constant(Verb::Sub, 2, 5),
-            third,
-            fourth,
-            fifth,
-            sixth,
-        ],
-    );
-    unnamed(&rt, alloc, &given, &[1, 4, 2, 4, 4], &given);
+    let target = b"mul $0,$0\nsub $2,5\nlpb $0\nlpe\nseq $1,45\nclr $1,2\n";
+    unnamed(&rt, alloc, given, &[0, 4, 1, 6], target);
+    unnamed(&rt, alloc, given, &[1, 4, 2, 4, 4], given);
 }
 
 #[test]
 fn longer_and_shorter(rt: HostRuntime) {
     let alloc = rt.alloc();
-    let given = [
-        constant(Verb::Mov, 0, 1),
-        lpb(0),
-        Instr::LoopEnd,
-        seq(0, 45),
-        clr(1, 2),
-    ];
-    let [_, second, third, fourth, fifth] = given;
+    let given = b"mov $0,1\nlpb $0\nlpe\nseq $0,45\nclr $1,2\n";
     // An end and a beginning of a loop stay.
-    unnamed(
-        &rt,
-        alloc,
-        &given,
-        &[2, 2, 0, 2, 0, 2, 1],
-        &[second, third, fourth, fifth],
-    );
-    unnamed(&rt, alloc, &given, &[2, 2, 3, 2, 3, 2, 0], &[second, third]);
+    let second = b"lpb $0\nlpe\nseq $0,45\nclr $1,2\n";
+    unnamed(&rt, alloc, given, &[2, 2, 0, 2, 0, 2, 1], second);
+    unnamed(&rt, alloc, given, &[2, 2, 3, 2, 3, 2, 0], b"lpb $0\nlpe\n");
     // In an empty list a change other than the first kind draws nothing more.
-    unnamed(&rt, alloc, &[], &[2, 0, 2, 5], &[]);
-    unnamed(&rt, alloc, &[], &[1, 3, 4], &[]);
-    unnamed(&rt, alloc, &[cells(Verb::Mov, 0, 1)], &[1, 2, 0, 3], &[]);
+    unnamed(&rt, alloc, b"", &[2, 0, 2, 5], b"");
+    unnamed(&rt, alloc, b"", &[1, 3, 4], b"");
+    unnamed(&rt, alloc, b"mov $0,$1\n", &[1, 2, 0, 3], b"");
     // The longest change: 19 words.
+    let words = [2, 1, 0, 1, 0, 4, 0, 1, 0, 2, 0, 4, 0, 1, 1, 3, 0, 4, 0];
     unnamed(
         &rt,
         alloc,
-        &[],
-        &[2, 1, 0, 1, 0, 4, 0, 1, 0, 2, 0, 4, 0, 1, 1, 3, 0, 4, 0],
-        &[
-            constant(Verb::Sub, 0, -2),
-            constant(Verb::Mul, 0, -2),
-            constant(Verb::Add, 0, -2),
-        ],
+        b"",
+        &words,
+        b"sub $0,-2\nmul $0,-2\nadd $0,-2\n",
     );
-    let longest = [cells(Verb::Mov, 0, 0); 1000];
+    let mut longest = Vec::new(alloc);
+    for _ in 0..1000 {
+        longest
+            .extend_from_slice(b"mov $0,$0\n")
+            .expect(&rt, "a text");
+    }
     unnamed(&rt, alloc, &longest, &[1, 1, 1], &longest);
 }
 
 #[test]
 fn constants_moved(rt: HostRuntime) {
     let alloc = rt.alloc();
-    let low = constant(Verb::Add, 0, -GREATEST);
-    let high = constant(Verb::Add, 0, GREATEST);
-    let given = [
-        constant(Verb::Add, 0, 7),
-        low,
-        high,
-        cells(Verb::Sub, 1, 2),
-        seq(0, 45),
-    ];
-    let [_, _, _, fourth, fifth] = given;
-    unnamed(
-        &rt,
-        alloc,
-        &given,
-        &[0, 3, 0, 1],
-        &[constant(Verb::Add, 0, 8), low, high, fourth, fifth],
-    );
-    unnamed(
-        &rt,
-        alloc,
-        &given,
-        &[0, 3, 0, 0],
-        &[constant(Verb::Add, 0, 6), low, high, fourth, fifth],
-    );
+    let given =
+        b"add $0,7\nadd $0,-170141183460469231731687303715884105727\nadd $0,170141183460469231731687303715884105727\nsub $1,$2\nseq $0,45\n";
+    let up =
+        b"add $0,8\nadd $0,-170141183460469231731687303715884105727\nadd $0,170141183460469231731687303715884105727\nsub $1,$2\nseq $0,45\n";
+    unnamed(&rt, alloc, given, &[0, 3, 0, 1], up);
+    let down =
+        b"add $0,6\nadd $0,-170141183460469231731687303715884105727\nadd $0,170141183460469231731687303715884105727\nsub $1,$2\nseq $0,45\n";
+    unnamed(&rt, alloc, given, &[0, 3, 0, 0], down);
     // Out of the number range no constant is moved.
-    unnamed(&rt, alloc, &given, &[1, 3, 1, 0, 3, 2, 1], &given);
-    unnamed(
-        &rt,
-        alloc,
-        &given,
-        &[1, 3, 1, 1, 3, 2, 0],
-        &[
-            constant(Verb::Add, 0, 7),
-            constant(Verb::Add, 0, 1 - GREATEST),
-            constant(Verb::Add, 0, GREATEST - 1),
-            fourth,
-            fifth,
-        ],
-    );
+    unnamed(&rt, alloc, given, &[1, 3, 1, 0, 3, 2, 1], given);
+    let inwards =
+        b"add $0,7\nadd $0,-170141183460469231731687303715884105726\nadd $0,170141183460469231731687303715884105726\nsub $1,$2\nseq $0,45\n";
+    unnamed(&rt, alloc, given, &[1, 3, 1, 1, 3, 2, 0], inwards);
     // Without a constant nothing more is drawn.
-    unnamed(&rt, alloc, &given, &[1, 3, 3, 3, 4], &given);
+    unnamed(&rt, alloc, given, &[1, 3, 3, 3, 4], given);
 }
 
 #[test]
 fn names_changed(rt: HostRuntime) {
     let alloc = rt.alloc();
-    let other = constant(Verb::Add, 0, 1);
+    let given = b"seq $3,45\nadd $0,1\n";
     named(
         &rt,
         alloc,
-        &[seq(3, 45), other],
+        given,
         &[1, 5, 0, 5, 5, 1],
-        &[seq(3, 16_742), other],
+        b"seq $3,16742\nadd $0,1\n",
     );
-    unnamed(
-        &rt,
-        alloc,
-        &[seq(3, 45), other],
-        &[0, 5, 0],
-        &[seq(3, 45), other],
-    );
+    unnamed(&rt, alloc, given, &[0, 5, 0], given);
 }

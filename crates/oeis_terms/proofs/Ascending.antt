@@ -9,7 +9,7 @@ use Rattle.std.specs.declared.cmp.Ordering.TheVariants.{Less, Equal, Greater}
 use Rattle.std.proofs.lemmas.Bool.Decides.{nat_tests}
 use Rattle.std.proofs.lemmas.Cmp.{nat_cmp_total}
 use Rattle.std.proofs.lemmas.List.Sorted.{searchable_from_sorted}
-use Rattle.oeis_terms.specs.Table.{Row, Table, IsRow, IsTable, IsBounded, IsAscending, row_of}
+use Rattle.oeis_terms.specs.Table.{Row, Table, IsRow, IsTable, IsBounded, HasAscendingNames, row_of}
 
 -- a name that is less than those of rows is less than that of each of them
 pub below_at : (n : ℕ) (rows : List Row) → AllByRecursion (λ s. n < s.0) rows → (k : ℕ) (d : Row) → k < length rows → n < (get_or rows k d).0
@@ -18,7 +18,7 @@ below_at n (r ∷ rs) h zero d lt = h.0
 below_at n (r ∷ rs) h (suc k) d lt = below_at n rs h.1 k d (omega arith)
 
 -- names rise along the rows
-pub names_rise : (rows : List Row) → IsAscending rows → (i j : ℕ) (d : Row) → i < j → j < length rows → (get_or rows i d).0 < (get_or rows j d).0
+pub names_rise : (rows : List Row) → HasAscendingNames rows → (i j : ℕ) (d : Row) → i < j → j < length rows → (get_or rows i d).0 < (get_or rows j d).0
 names_rise [] h i j d lt le = absurd (omega arith)
 names_rise (r ∷ rs) h zero zero d lt le = absurd (omega arith)
 names_rise (r ∷ rs) h zero (suc j) d lt le = below_at r.0 rs h.0 j d (omega arith)
@@ -29,7 +29,7 @@ find_none : (rows : List Row) (name : ℕ) → ((k : ℕ) (d : Row) → k < leng
 find_none [] name h = refl
 find_none (r ∷ rs) name h = let other = h zero r (omega arith) in rw other (find_none rs name (λ k d lt. h (suc k) d (omega arith)))
 
-find_at : (rows : List Row) (name k : ℕ) (d : Row) → IsAscending rows → k < length rows → (get_or rows k d).0 ≡ name → find (λ r. r.0 == name) rows ≡ Some (get_or rows k d)
+find_at : (rows : List Row) (name k : ℕ) (d : Row) → HasAscendingNames rows → k < length rows → (get_or rows k d).0 ≡ name → find (λ r. r.0 == name) rows ≡ Some (get_or rows k d)
 find_at [] name k d h lt e = absurd (omega arith)
 find_at (r ∷ rs) name zero d h lt e = let same : eqb r.0 name ≡ true = grind (arith, nat_tests, e) in rw same refl
 find_at (r ∷ rs) name (suc k) d h lt e =
@@ -39,7 +39,7 @@ find_at (r ∷ rs) name (suc k) d h lt e =
 
 -- ---- a search by halves
 
-pub row_found : (rows : List Row) (name place : ℕ) (row : Row) → IsAscending rows → place < length rows → HoldsAt (λ (y : Row). nat_cmp y.0 name ≡ Equal) rows place → row ≡ get_or rows place row
+pub row_found : (rows : List Row) (name place : ℕ) (row : Row) → HasAscendingNames rows → place < length rows → HoldsAt (λ (y : Row). nat_cmp y.0 name ≡ Equal) rows place → row ≡ get_or rows place row
     → find (λ (r : Row). r.0 == name) rows ≡ Some row
 row_found rows name place row h lt equal is =
     let cmp : nat_cmp (get_or rows place row).0 name ≡ Equal = equal row in
@@ -52,10 +52,10 @@ differs a n k i less greater = grind (arith, nat_tests)
 not_less : (a b : ℕ) → a < b → is_lt (nat_cmp b a) ≡ false
 not_less a b lt = grind (arith, nat_tests)
 
-sorted_rows : (rows : List Row) → IsAscending rows → IsSortedBy (λ (a b : Row). is_lt (nat_cmp a.0 b.0)) rows
+sorted_rows : (rows : List Row) → HasAscendingNames rows → IsSortedBy (λ (a b : Row). is_lt (nat_cmp a.0 b.0)) rows
 sorted_rows rows h k d low lt = not_less (get_or rows k d).0 (get_or rows (k + 1) d).0 (names_rise rows h k (k + 1) d (omega arith) lt)
 
-pub row_absent : (rows : List Row) (name place : ℕ) → IsAscending rows
+pub row_absent : (rows : List Row) (name place : ℕ) → HasAscendingNames rows
     → (IsNonDecreasingBy (λ (y : Row). ordering_index (nat_cmp y.0 name)) rows → IsPartitionPoint (λ (y : Row). nat_cmp y.0 name ≡ Less) (λ (y : Row). nat_cmp y.0 name ≡ Greater) rows place)
     → find (λ (r : Row). r.0 == name) rows ≡ None
 row_absent rows name place h searched =

@@ -6,11 +6,11 @@ use Rattle.std.proofs.lemmas.Bool.Decides.{nat_tests}
 use Rattle.std.proofs.lemmas.List.Sorted.{All-permutation}
 use Rattle.loda_io.specs.declared.ReadError.{ReadError}
 use Rattle.loda_io.specs.declared.ReadError.TheVariants.{FileTooLarge, LineTooLong}
-use Rattle.loda_io.specs.Shelf.{Spot, beginning, limit, line_limit, checked}
+use Rattle.loda_io.specs.Shelf.{Spot, beginning, file_limit, line_limit, checked}
 use Rattle.loda_io.specs.Shelf as io
 use Rattle.oeis_terms.specs.declared.error.TermsError.{TermsError}
 use Rattle.oeis_terms.specs.Cut.{Pieces, pieces, with_byte, lines}
-use Rattle.oeis_terms.specs.Stripped.{Fault, first_fault, rows_in, unless, stripped}
+use Rattle.oeis_terms.specs.Stripped.{TermsFault, first_line_fault, rows_in, unless_fault, stripped}
 use Rattle.oeis_terms.specs.Table.{Row, Table, IsBounded, is_kept, by_name, table_of}
 use Rattle.oeis_terms.specs.Answers.{Parses}
 use Rattle.oeis_terms.proofs.Said.{row_facts}
@@ -64,27 +64,27 @@ if_none false e o h = (refl, h)
 shorter : (n : ℕ) → n ≤ 65_536 → eqb n 65_536 ≡ false → n + 1 ≤ 65_536
 shorter n le other = grind (arith, nat_tests)
 
-are_short : (bs : List ℕ) (s : Spot) → s.column ≤ 65_536 → io.first_fault s bs ≡ None → AreShort s.column (lines bs)
-unfolding io.first_fault lines pieces
+are_short : (bs : List ℕ) (s : Spot) → s.column ≤ 65_536 → io.first_past_limit s bs ≡ None → AreShort s.column (lines bs)
+unfolding io.first_past_limit lines pieces
 are_short [] s le e = (omega arith, tt)
 are_short (b ∷ bs) s le e =
     let at : Spot = record { at = s.at + 1; line = s.line + 1; column = 0 } in
     let on : Spot = record { at = s.at + 1; line = s.line; column = s.column + 1 } in
-    let inside = if_none (eqb s.at limit) (FileTooLarge (limit + 1)) (cond (eqb b 10) (io.first_fault at bs) (cond (eqb s.column line_limit) (Some (LineTooLong s.line)) (io.first_fault on bs))) e in
+    let inside = if_none (eqb s.at file_limit) (FileTooLarge (file_limit + 1)) (cond (eqb b 10) (io.first_past_limit at bs) (cond (eqb s.column line_limit) (Some (LineTooLong s.line)) (io.first_past_limit on bs))) e in
     subst (λ (ls : List (List ℕ)). AreShort s.column ls) (sym (lines-cons b bs)) (in_case (eqb b 10) inside.1 (are_short bs at (omega arith)) (λ few. are_short bs on few))
   where
-    in_case : (same : Bool) → cond same (io.first_fault (record { at = s.at + 1; line = s.line + 1; column = 0 }) bs)
-        (cond (eqb s.column line_limit) (Some (LineTooLong s.line)) (io.first_fault (record { at = s.at + 1; line = s.line; column = s.column + 1 }) bs)) ≡ None
-        → (io.first_fault (record { at = s.at + 1; line = s.line + 1; column = 0 }) bs ≡ None → AreShort 0 (lines bs))
-        → (s.column + 1 ≤ 65_536 → io.first_fault (record { at = s.at + 1; line = s.line; column = s.column + 1 }) bs ≡ None → AreShort (s.column + 1) (lines bs))
+    in_case : (same : Bool) → cond same (io.first_past_limit (record { at = s.at + 1; line = s.line + 1; column = 0 }) bs)
+        (cond (eqb s.column line_limit) (Some (LineTooLong s.line)) (io.first_past_limit (record { at = s.at + 1; line = s.line; column = s.column + 1 }) bs)) ≡ None
+        → (io.first_past_limit (record { at = s.at + 1; line = s.line + 1; column = 0 }) bs ≡ None → AreShort 0 (lines bs))
+        → (s.column + 1 ≤ 65_536 → io.first_past_limit (record { at = s.at + 1; line = s.line; column = s.column + 1 }) bs ≡ None → AreShort (s.column + 1) (lines bs))
         → AreShort s.column (cond same ([] ∷ lines bs) (before_lines b (lines bs)))
     in_case true e' ended going = (omega arith, all_short (lines bs) (ended e'))
     in_case false e' ended going =
-        let few = if_none (eqb s.column line_limit) (LineTooLong s.line) (io.first_fault (record { at = s.at + 1; line = s.line; column = s.column + 1 }) bs) e' in
+        let few = if_none (eqb s.column line_limit) (LineTooLong s.line) (io.first_past_limit (record { at = s.at + 1; line = s.line; column = s.column + 1 }) bs) e' in
         let le' = shorter s.column le few.0 in
         one_longer s.column b (lines bs) le' (going le' few.1)
 
-read_whole : (f : Option ReadError) (bytes : List ℕ) → io.unless f bytes ≡ Ok bytes → f ≡ None
+read_whole : (f : Option ReadError) (bytes : List ℕ) → io.file_unless f bytes ≡ Ok bytes → f ≡ None
 read_whole None bytes e = refl
 read_whole (Some fault) bytes e = absurd cc
 
@@ -98,17 +98,17 @@ kept_few ls h =
     each IsFew (filter is_kept (rows_in ls))
     (kept_all IsFew IsFew (λ row few test. few) (rows_in ls) (rows_all IsFew IsShort (λ l row short is. let facts = (row_facts l row is).2 in omega (arith, facts, short)) ls h))
 
-table_in : (f : Option Fault) (t table : Table) → unless f t ≡ Ok table → t ≡ table
+table_in : (f : Option TermsFault) (t table : Table) → unless_fault f t ≡ Ok table → t ≡ table
 table_in None t table e = cc
 table_in (Some fault) t table e = absurd cc
 
 bounded_table : (bytes : List ℕ) (table : Table) → checked bytes ≡ Ok bytes → stripped bytes ≡ Ok table → IsBounded table
 unfolding stripped
 bounded_table bytes table whole e =
-    let short = all_short (lines bytes) (are_short bytes beginning (omega arith) (read_whole (io.first_fault beginning bytes) bytes whole)) in
+    let short = all_short (lines bytes) (are_short bytes beginning (omega arith) (read_whole (io.first_past_limit beginning bytes) bytes whole)) in
     let kept = filter is_kept (rows_in (lines bytes)) in
     let few = All-permutation IsFew kept (by_name kept) (by_name-permutation kept) (kept_few (lines bytes) short) in
-    subst IsBounded (table_in (first_fault [] (lines bytes)) (table_of (rows_in (lines bytes))) table e) few
+    subst IsBounded (table_in (first_line_fault [] (lines bytes)) (table_of (rows_in (lines bytes))) table e) few
 
 pub bounded_answer : (bytes : List ℕ) (answer : Result Table TermsError) → checked bytes ≡ Ok bytes → Parses (stripped bytes) answer → IfOk answer IsBounded
 bounded_answer bytes (Ok table) whole e = bounded_table bytes table whole e

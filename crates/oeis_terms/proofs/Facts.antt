@@ -8,7 +8,7 @@ use Rattle.std.proofs.lemmas.List.Sums.{sum_by-cons, sum_by_push}
 use Rattle.oeis_terms.specs.declared.error.TermsKind.{TermsKind}
 use Rattle.oeis_terms.specs.declared.error.TermsKind.TheVariants.{Repeated}
 use Rattle.oeis_terms.specs.Line.{said}
-use Rattle.oeis_terms.specs.Stripped.{row_in, rows_in, fault_behind, Fault, or_later, first_fault}
+use Rattle.oeis_terms.specs.Stripped.{row_in, rows_in, fault_behind, TermsFault, or_later, first_line_fault}
 use Rattle.oeis_terms.specs.Table.{Row, IsRow, NamesDiffer, is_kept}
 use Rattle.oeis_terms.proofs.Said.{row_facts}
 use Rattle.oeis_terms.proofs.LinesRead.{rows_push}
@@ -52,19 +52,19 @@ NamesDiffer-line earlier line (Ok (Some row)) is h e = in_case (list_any (λ (r 
     in_case true new e' = absurd cc
     in_case false new e' = subst NamesDiffer (sym (rows_push earlier line (Ok (Some row)) is)) (NamesDiffer-push (rows_in earlier) row h new)
 
-no_fault : (f : Option TermsKind) (n : ℕ) (later : Option Fault) → or_later f n later ≡ None → (f ≡ None) × (later ≡ None)
+no_fault : (f : Option TermsKind) (n : ℕ) (later : Option TermsFault) → or_later f n later ≡ None → (f ≡ None) × (later ≡ None)
 no_fault None n later e = (refl, e)
 no_fault (Some kind) n later e = absurd cc
 
-names_differ_from : (earlier later : List (List ℕ)) → first_fault earlier later ≡ None → NamesDiffer (rows_in earlier) → NamesDiffer (rows_in (earlier ++ later))
-unfolding first_fault
+names_differ_from : (earlier later : List (List ℕ)) → first_line_fault earlier later ≡ None → NamesDiffer (rows_in earlier) → NamesDiffer (rows_in (earlier ++ later))
+unfolding first_line_fault
 names_differ_from earlier [] e h = subst (λ (ls : List (List ℕ)). NamesDiffer (rows_in ls)) (sym (append-nil earlier)) h
 names_differ_from earlier (l ∷ ls) e h =
-    let none = no_fault (fault_behind (rows_in earlier) (said l)) (length earlier + 1) (first_fault (earlier ++ l ∷ []) ls) e in
+    let none = no_fault (fault_behind (rows_in earlier) (said l)) (length earlier + 1) (first_line_fault (earlier ++ l ∷ []) ls) e in
     let more = names_differ_from (earlier ++ l ∷ []) ls none.1 (NamesDiffer-line earlier l (said l) refl h none.0) in
     subst (λ (all : List (List ℕ)). NamesDiffer (rows_in all)) (append_assoc earlier (l ∷ []) ls) more
 
-pub names_differ : (ls : List (List ℕ)) → first_fault [] ls ≡ None → NamesDiffer (rows_in ls)
+pub names_differ : (ls : List (List ℕ)) → first_line_fault [] ls ≡ None → NamesDiffer (rows_in ls)
 names_differ ls e = names_differ_from [] ls e (λ name. omega arith)
 
 count_kept : (name : ℕ) (rows : List Row) → count_by (λ r. r.0 == name) (filter is_kept rows) ≤ count_by (λ r. r.0 == name) rows

@@ -15,9 +15,9 @@ use Rattle.oeis_terms.specs.declared.error.TermsKind.TheVariants.{Repeated}
 use Rattle.oeis_terms.specs.Cut.{lines, lines_left}
 use Rattle.oeis_terms.specs.Items.{◌>>=◌}
 use Rattle.oeis_terms.specs.Line.{said}
-use Rattle.oeis_terms.specs.Stripped.{row_in, rows_in, fault_behind, Fault, or_later, first_fault}
+use Rattle.oeis_terms.specs.Stripped.{row_in, rows_in, fault_behind, TermsFault, or_later, first_line_fault}
 use Rattle.oeis_terms.specs.Table.{Row, is_kept, is_skipped}
-use Rattle.oeis_terms.specs.Reading.{State, Reflects, Fails, ReadsLines, error_in, with_row, after_row, after_line}
+use Rattle.oeis_terms.specs.Reading.{ReadingState, Reflects, LineFails, ReadsLines, error_at_line, with_row, after_row, after_line}
 use Rattle.oeis_terms.proofs.Said.{row_facts}
 
 -- what is left to read, with the end
@@ -26,15 +26,15 @@ left None = 0
 left (Some text) = length text + 1
 
 -- lines were read without a fault, and the state stands for their rows
-pub record HasRead (all : List (List ℕ)) (rest : Option (List ℕ)) (next : ℕ) (state : State) : Type 0 where
+pub record HasRead (all : List (List ℕ)) (rest : Option (List ℕ)) (next : ℕ) (state : ReadingState) : Type 0 where
   pub earlier : List (List ℕ)
   pub whole : earlier ++ lines_left rest ≡ all
-  pub faults : first_fault earlier (lines_left rest) ≡ first_fault [] all
+  pub faults : first_line_fault earlier (lines_left rest) ≡ first_line_fault [] all
   pub number : next ≡ length earlier + 1
   pub rows : Reflects (rows_in earlier) state
   pub few : state.skipped < next
 
-pub start : (text : List ℕ) (state : State) → Reflects [] state → HasRead (lines text) (Some text) 1 state
+pub start : (text : List ℕ) (state : ReadingState) → Reflects [] state → HasRead (lines text) (Some text) 1 state
 start text state rows = let none : state.skipped ≡ 0 = rows.skipped in record { earlier = []; whole = refl; faults = refl; number = refl; rows = rows; few = omega arith }
 
 pub less_left : (text : List ℕ) (after : Option (Bor (List ℕ))) → IfSome after (λ t. length t.now < length text) → left (option_map (λ t. t.now) after) + 1 ≤ left (Some text)
@@ -76,7 +76,7 @@ one_more : (b : Bool) (n : ℕ) → cond b n (n + 1) ≤ n + 1
 one_more true n = omega arith
 one_more false n = omega arith
 
-Reflects-push : (rows : List Row) (state : State) (row : Row) → Reflects rows state → row.0 < 1_000_000 → Reflects (rows ++ row ∷ []) (with_row state row)
+Reflects-push : (rows : List Row) (state : ReadingState) (row : Row) → Reflects rows state → row.0 < 1_000_000 → Reflects (rows ++ row ∷ []) (with_row state row)
 Reflects-push rows state row h low =
     let size = h.size in
     record {
@@ -93,17 +93,17 @@ pub rows_push : (earlier : List (List ℕ)) (line : List ℕ) (o : Result (Optio
 rows_push earlier line o e =
     filter_map-append (λ (l : List ℕ). row_in (said l)) earlier (line ∷ []) ∙ ap (λ (r : Result (Option Row) TermsKind). rows_in earlier ++ cons_option (row_in r) []) e
 
-record Adds (earlier : List (List ℕ)) (line : List ℕ) (o : Result (Option Row) TermsKind) (state state' : State) : Type 0 where
+record Adds (earlier : List (List ℕ)) (line : List ℕ) (o : Result (Option Row) TermsKind) (state state' : ReadingState) : Type 0 where
   fault : fault_behind (rows_in earlier) o ≡ None
   rows : Reflects (rows_in (earlier ++ line ∷ [])) state'
   few : state'.skipped ≤ state.skipped + 1
 
-adds : (earlier : List (List ℕ)) (line : List ℕ) (o : Result (Option Row) TermsKind) (state state' : State) → said line ≡ o → Reflects (rows_in earlier) state → (o >>= after_row state) ≡ Ok state' → Adds earlier line o state state'
+adds : (earlier : List (List ℕ)) (line : List ℕ) (o : Result (Option Row) TermsKind) (state state' : ReadingState) → said line ≡ o → Reflects (rows_in earlier) state → (o >>= after_row state) ≡ Ok state' → Adds earlier line o state state'
 adds earlier line (Err kind) state state' is h e = absurd cc
 adds earlier line (Ok None) state state' is h e =
     let same : state ≡ state' = cc in
     let rows : rows_in earlier ≡ rows_in (earlier ++ line ∷ []) = sym (rows_push earlier line (Ok None) is ∙ append-nil (rows_in earlier)) in
-    let now : Reflects (rows_in (earlier ++ line ∷ [])) state' = subst (λ (s : State). Reflects (rows_in (earlier ++ line ∷ [])) s) same (subst (λ (rs : List Row). Reflects rs state) rows h) in
+    let now : Reflects (rows_in (earlier ++ line ∷ [])) state' = subst (λ (s : ReadingState). Reflects (rows_in (earlier ++ line ∷ [])) s) same (subst (λ (rs : List Row). Reflects rs state) rows h) in
     record { fault = refl; rows = now; few = rw (← same) (omega arith) }
 adds earlier line (Ok (Some row)) state state' is h e = in_case (get_or state.seen row.0 false) refl e
   where
@@ -117,20 +117,20 @@ adds earlier line (Ok (Some row)) state state' is h e = in_case (get_or state.se
         let rows : rows_in earlier ++ row ∷ [] ≡ rows_in (earlier ++ line ∷ []) = sym (rows_push earlier line (Ok (Some row)) is) in
         record {
           fault = rw new refl;
-          rows = subst (λ (s : State). Reflects (rows_in (earlier ++ line ∷ [])) s) same (subst (λ (rs : List Row). Reflects rs (with_row state row)) rows pushed);
+          rows = subst (λ (s : ReadingState). Reflects (rows_in (earlier ++ line ∷ [])) s) same (subst (λ (rs : List Row). Reflects rs (with_row state row)) rows pushed);
           few = rw (← same) (one_more (is_kept row) state.skipped);
         }
 
-pub one_line : (all : List (List ℕ)) (text line : List ℕ) (after : Option (List ℕ)) (next : ℕ) (state state' : State) → HasRead all (Some text) next state → lines text ≡ line ∷ lines_left after
+pub one_line : (all : List (List ℕ)) (text line : List ℕ) (after : Option (List ℕ)) (next : ℕ) (state state' : ReadingState) → HasRead all (Some text) next state → lines text ≡ line ∷ lines_left after
     → after_line state line ≡ Ok state' → HasRead all after (next + 1) state'
-unfolding first_fault
+unfolding first_line_fault
 one_line all text line after next state state' h cut e =
     let a = adds h.earlier line (said line) state state' refl h.rows e in
     let whole : h.earlier ++ (line ∷ lines_left after) ≡ all = ap (λ (ls : List (List ℕ)). h.earlier ++ ls) (sym cut) ∙ h.whole in
-    let step : first_fault h.earlier (line ∷ lines_left after) ≡ first_fault (h.earlier ++ line ∷ []) (lines_left after) =
-    ap (λ (f : Option TermsKind). or_later f (length h.earlier + 1) (first_fault (h.earlier ++ line ∷ []) (lines_left after))) a.fault
+    let step : first_line_fault h.earlier (line ∷ lines_left after) ≡ first_line_fault (h.earlier ++ line ∷ []) (lines_left after) =
+    ap (λ (f : Option TermsKind). or_later f (length h.earlier + 1) (first_line_fault (h.earlier ++ line ∷ []) (lines_left after))) a.fault
     in
-    let faults : first_fault h.earlier (line ∷ lines_left after) ≡ first_fault [] all = ap (first_fault h.earlier) (sym cut) ∙ h.faults in
+    let faults : first_line_fault h.earlier (line ∷ lines_left after) ≡ first_line_fault [] all = ap (first_line_fault h.earlier) (sym cut) ∙ h.faults in
     let number = h.number in
     let few = h.few in
     let more = a.few in
@@ -143,7 +143,7 @@ one_line all text line after next state state' h cut e =
       few = omega arith;
     }
 
-fault_is : (earlier : List (List ℕ)) (line : List ℕ) (o : Result (Option Row) TermsKind) (state : State) (kind : TermsKind) → said line ≡ o → Reflects (rows_in earlier) state
+fault_is : (earlier : List (List ℕ)) (line : List ℕ) (o : Result (Option Row) TermsKind) (state : ReadingState) (kind : TermsKind) → said line ≡ o → Reflects (rows_in earlier) state
     → (o >>= after_row state) ≡ Err kind → fault_behind (rows_in earlier) o ≡ Some kind
 fault_is earlier line (Err k) state kind is h e = cc
 fault_is earlier line (Ok None) state kind is h e = absurd cc
@@ -156,23 +156,23 @@ fault_is earlier line (Ok (Some row)) state kind is h e = in_case (get_or state.
         let seen : list_any (has_name row.0) (rows_in earlier) ≡ true = sym (h.seen row.0 (row_facts line row is).1) ∙ test in
         rw seen (ap (λ (k : TermsKind). Some k) same)
 
-pub bad_line : (all : List (List ℕ)) (text line : List ℕ) (after : Option (List ℕ)) (next : ℕ) (state : State) (kind : TermsKind) → HasRead all (Some text) next state → lines text ≡ line ∷ lines_left after
-    → after_line state line ≡ Err kind → first_fault [] all ≡ Some (record { line = next; kind = kind })
-unfolding first_fault
+pub bad_line : (all : List (List ℕ)) (text line : List ℕ) (after : Option (List ℕ)) (next : ℕ) (state : ReadingState) (kind : TermsKind) → HasRead all (Some text) next state → lines text ≡ line ∷ lines_left after
+    → after_line state line ≡ Err kind → first_line_fault [] all ≡ Some (record { line = next; kind = kind })
+unfolding first_line_fault
 bad_line all text line after next state kind h cut e =
     let fault = fault_is h.earlier line (said line) state kind refl h.rows e in
-    let step : first_fault h.earlier (line ∷ lines_left after) ≡ Some (record { line = length h.earlier + 1; kind = kind }) =
-    ap (λ (f : Option TermsKind). or_later f (length h.earlier + 1) (first_fault (h.earlier ++ line ∷ []) (lines_left after))) fault
+    let step : first_line_fault h.earlier (line ∷ lines_left after) ≡ Some (record { line = length h.earlier + 1; kind = kind }) =
+    ap (λ (f : Option TermsKind). or_later f (length h.earlier + 1) (first_line_fault (h.earlier ++ line ∷ []) (lines_left after))) fault
     in
-    sym h.faults ∙ ap (first_fault h.earlier) cut ∙ step ∙ ap (λ (n : ℕ). let f : Option Fault = Some (record { line = n; kind = kind }) in f) (sym h.number)
+    sym h.faults ∙ ap (first_line_fault h.earlier) cut ∙ step ∙ ap (λ (n : ℕ). let f : Option TermsFault = Some (record { line = n; kind = kind }) in f) (sym h.number)
 
-pub done : (all : List (List ℕ)) (next : ℕ) (state : State) → HasRead all None next state → (first_fault [] all ≡ None) × Reflects (rows_in all) state
-unfolding first_fault
+pub done : (all : List (List ℕ)) (next : ℕ) (state : ReadingState) → HasRead all None next state → (first_line_fault [] all ≡ None) × Reflects (rows_in all) state
+unfolding first_line_fault
 done all next state h =
     let same : h.earlier ≡ all = sym (append-nil h.earlier) ∙ h.whole in
     (sym h.faults, subst (λ (ls : List (List ℕ)). Reflects (rows_in ls) state) same h.rows)
 
-pub bad_answer : (bytes text line : List ℕ) (after : Option (List ℕ)) (next : ℕ) (state : State) (e : LineError) → HasRead (lines bytes) (Some text) next state → lines text ≡ line ∷ lines_left after
-    → Fails e (after_line state line) → ReadsLines bytes (Err (error_in next e))
+pub bad_answer : (bytes text line : List ℕ) (after : Option (List ℕ)) (next : ℕ) (state : ReadingState) (e : LineError) → HasRead (lines bytes) (Some text) next state → lines text ≡ line ∷ lines_left after
+    → LineFails e (after_line state line) → ReadsLines bytes (Err (error_at_line next e))
 bad_answer bytes text line after next state errors.Memory h cut e = tt
 bad_answer bytes text line after next state (errors.Bad kind) h cut e = bad_line (lines bytes) text line after next state kind h cut e

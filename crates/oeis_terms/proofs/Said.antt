@@ -11,10 +11,10 @@ use Rattle.oeis_terms.specs.declared.error.TermsKind.TheVariants.{BadName, NoCom
 use Rattle.text_parts.specs.Blanks.{without_return, is_blank, trim_back}
 use Rattle.oeis_terms.specs.Cut.{Pieces, pieces, with_byte, ends_with, trimmed}
 use Rattle.oeis_terms.specs.Items.{◌>>=◌, items_from}
-use Rattle.text_parts.specs.Digits.{number_of}
+use Rattle.text_parts.specs.Digits.{number_spelled}
 use Rattle.oeis_terms.specs.Numbers.{integer_of}
 use Rattle.text_parts.specs.Names.{name_read}
-use Rattle.oeis_terms.specs.Line.{named, name_at, term_at, integers_from, usable, usable_terms, is_ended, terms_of, row_at, is_silent, said}
+use Rattle.oeis_terms.specs.Line.{named, name_at, term_at, integers_from, usable, usable_terms, is_ended, terms_read, row_at, is_silent, said}
 use Rattle.oeis_terms.specs.Table.{Row}
 use Rattle.text_parts.proofs.Shorter.{back-length, return-length}
 use Rattle.text_parts.proofs.NameBack.{read_is_name}
@@ -41,13 +41,13 @@ if_silent false r row e = row_in_result r row e
 pub record IsRowOf (line : List ℕ) (row : Row) : Type 0 where
   pub behind : List ℕ
   pub name : name_at line ≡ Ok (row.0, behind)
-  pub terms : terms_of behind ≡ Ok row.1
+  pub terms : terms_read behind ≡ Ok row.1
 
 parts : (line : List ℕ) (row : Row) → row_at line ≡ Ok row → IsRowOf line row
 unfolding row_at
 parts line row e =
     let named = bind_ok (name_at line) _ row e in
-    let termed = bind_ok (terms_of named.0.1) _ row named.2 in
+    let termed = bind_ok (terms_read named.0.1) _ row named.2 in
     let name : named.0.0 ≡ row.0 = cc (termed.2) in
     let terms : termed.0 ≡ row.1 = cc (termed.2) in
     record {
@@ -107,7 +107,7 @@ count_items column (p ∷ ps) zs e =
     let len : suc (length others.0) ≡ length zs = ap length all in
     omega (arith, not_empty column p one.0 one.1, count_items (column + (length p + 1)) ps others.0 others.1, len, sum_by-cons (λ (q : List ℕ). length q + 1) p ps)
 
-pub terms_count : (line : List ℕ) (terms : List ℤ) → terms_of line ≡ Ok terms → 2 * length terms ≤ length line
+pub terms_count : (line : List ℕ) (terms : List ℤ) → terms_read line ≡ Ok terms → 2 * length terms ≤ length line
 terms_count [] terms e = absurd cc
 terms_count (b ∷ []) terms e = absurd cc
 terms_count (b ∷ c ∷ rest) terms e =

@@ -6,7 +6,7 @@ use Rattle.std.specs.List.Sorted.{IsPermutation, IsNonDecreasingBy}
 use Rattle.std.proofs.lemmas.Bool.Decides.{nat_tests}
 use Rattle.std.proofs.lemmas.List.Sums.{sum_by-cons}
 use Rattle.std.proofs.lemmas.List.Sorted.{IsPermutation-refl, IsPermutation-sym, IsPermutation-cons, IsPermutation-trans, IsPermutation-middle, Contains-permutation, sum_by-IsPermutation}
-use Rattle.oeis_terms.specs.Table.{Row, IsAscending, NamesDiffer, put, by_name}
+use Rattle.oeis_terms.specs.Table.{Row, HasAscendingNames, NamesDiffer, put, by_name}
 use Rattle.oeis_terms.proofs.Ascending.{below_at}
 
 abbrev one_named : ℕ → Row → ℕ
@@ -53,7 +53,7 @@ below_all n (r ∷ rs) h = (h zero r (omega arith), below_all n rs (λ k d lt. h
 strictly : (m n : ℕ) → m ≤ n → eqb n m ≡ false → m < n
 strictly m n le other = grind (arith, nat_tests)
 
-pub ascending_sorted : (ys : List Row) → IsNonDecreasingBy (λ (r : Row). r.0) ys → NamesDiffer ys → IsAscending ys
+pub ascending_sorted : (ys : List Row) → IsNonDecreasingBy (λ (r : Row). r.0) ys → NamesDiffer ys → HasAscendingNames ys
 ascending_sorted [] h names = tt
 ascending_sorted (y ∷ ys) h names = (
   below_all y.0 ys (λ k d lt. strictly y.0 (get_or ys k d).0 (h zero (suc k) d (omega arith) (omega arith)) (differs_at y.0 ys (none_else y ys names) k d lt)),
@@ -93,15 +93,15 @@ more m n not_less other = grind (arith, nat_tests)
 less : (m n : ℕ) → ltb m n ≡ true → m < n
 less m n test = grind (arith, nat_tests)
 
-ascending_put : (r : Row) (rows : List Row) → IsAscending rows → count_by (λ s. s.0 == r.0) rows ≡ 0 → IsAscending (put r rows)
+ascending_put : (r : Row) (rows : List Row) → HasAscendingNames rows → count_by (λ s. s.0 == r.0) rows ≡ 0 → HasAscendingNames (put r rows)
 ascending_put r [] h e = (tt, tt)
 ascending_put r (x ∷ xs) h e = in_case (ltb r.0 x.0) refl (ascending_put r xs h.1 (none_in_tail r.0 x xs e).1)
   where
-    in_case : (b : Bool) → ltb r.0 x.0 ≡ b → IsAscending (put r xs) → IsAscending (cond b (r ∷ x ∷ xs) (x ∷ put r xs))
+    in_case : (b : Bool) → ltb r.0 x.0 ≡ b → HasAscendingNames (put r xs) → HasAscendingNames (cond b (r ∷ x ∷ xs) (x ∷ put r xs))
     in_case true test rest = let lt = less r.0 x.0 test in ((lt, below_less r.0 x.0 xs lt h.0), h)
     in_case false test rest = (below_put x.0 r xs (more r.0 x.0 test (none_in_tail r.0 x xs e).0) h.0, rest)
 
-pub ascending_by_name : (rows : List Row) → NamesDiffer rows → IsAscending (by_name rows)
+pub ascending_by_name : (rows : List Row) → NamesDiffer rows → HasAscendingNames (by_name rows)
 ascending_by_name [] names = tt
 ascending_by_name (r ∷ rs) names =
     ascending_put r (by_name rs) (ascending_by_name rs (NamesDiffer-tail r rs names)) (sum_by-IsPermutation (one_named r.0) rs (by_name rs) (by_name-permutation rs) ∙ none_else r rs names)
@@ -129,7 +129,7 @@ tails x y xs ys same p within r m =
         absurd (omega arith)
     behind (suc j) lt e = (j, omega arith, e)
 
-pub same_ascending : (xs ys : List Row) → IsAscending xs → IsAscending ys → ((r : Row) → Contains xs r → Contains ys r) → ((r : Row) → Contains ys r → Contains xs r) → xs ≡ ys
+pub same_ascending : (xs ys : List Row) → HasAscendingNames xs → HasAscendingNames ys → ((r : Row) → Contains xs r → Contains ys r) → ((r : Row) → Contains ys r → Contains xs r) → xs ≡ ys
 same_ascending [] [] p q to from = refl
 same_ascending [] (y ∷ ys) p q to from = let there = from y (zero, omega arith, refl) in absurd (omega (arith, there.1))
 same_ascending (x ∷ xs) [] p q to from = let there = to x (zero, omega arith, refl) in absurd (omega (arith, there.1))
@@ -140,7 +140,7 @@ same_ascending (x ∷ xs) (y ∷ ys) p q to from =
     let tail : xs ≡ ys = same_ascending xs ys p.1 q.1 (tails x y xs ys head p.0 to) (tails y x ys xs (sym head) q.0 from) in
     ap (λ (s : Row). s ∷ xs) head ∙ ap (λ (rows : List Row). y ∷ rows) tail
 
-pub sorted_is_by_name : (xs ys : List Row) → IsPermutation xs ys → IsAscending ys → NamesDiffer xs → ys ≡ by_name xs
+pub sorted_is_by_name : (xs ys : List Row) → IsPermutation xs ys → HasAscendingNames ys → NamesDiffer xs → ys ≡ by_name xs
 sorted_is_by_name xs ys perm rises names =
     let defined = by_name-permutation xs in
     same_ascending ys (by_name xs) rises (ascending_by_name xs names)

@@ -6,7 +6,7 @@ use Rattle.oeis_terms.specs.declared.error.TermsKind.{TermsKind}
 use Rattle.oeis_terms.specs.declared.error.TermsKind.TheVariants.{BadName, NoComma, BadTerm}
 use Rattle.oeis_terms.specs.Cut.{pieces, ends_with, trimmed}
 use Rattle.oeis_terms.specs.Items.{◌>>=◌, items_from}
-use Rattle.text_parts.specs.Digits.{number_of}
+use Rattle.text_parts.specs.Digits.{number_spelled}
 use Rattle.oeis_terms.specs.Numbers.{integer_of}
 use Rattle.oeis_terms.specs.Table.{Row}
 
@@ -41,16 +41,16 @@ abbrev pub is_ended : List ℕ → Bool
 is_ended line = length line == 0 || ends_with 44 line
 
 -- a space, a comma, and terms that are each followed by a comma
-abbrev pub terms_of : List ℕ → Result (List ℤ) TermsKind
-terms_of [] = Err NoComma
-terms_of (b ∷ []) = Err NoComma
-terms_of (b ∷ c ∷ rest) = if b == 32 && c == 44 then (if is_ended rest then usable_terms rest else Err NoComma) else Err NoComma
+abbrev pub terms_read : List ℕ → Result (List ℤ) TermsKind
+terms_read [] = Err NoComma
+terms_read (b ∷ []) = Err NoComma
+terms_read (b ∷ c ∷ rest) = if b == 32 && c == 44 then (if is_ended rest then usable_terms rest else Err NoComma) else Err NoComma
 
 -- a name and its usable terms
 unfoldable pub row_at : List ℕ → Result Row TermsKind
 row_at line = do
   named ← name_at line
-  terms ← terms_of named.1
+  terms ← terms_read named.1
   Ok (named.0, terms)
 
 -- an empty line, or a comment, which begins with `#`

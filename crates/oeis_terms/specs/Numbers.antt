@@ -1,7 +1,7 @@
 -- Decimal integers.
 use Rattle.std.specs.Prelude.{ℕ, ◌+◌, ◌-◌, ◌*◌, ◌^◌, ◌==◌, List, [], ◌∷◌, if◌then◌else◌, Bool, true, false, ℤ, pos, neg_ℤ, Option, Some, None}
 use Rattle.std.specs.Option.{option_map}
-use Rattle.text_parts.specs.Digits.{number_of}
+use Rattle.text_parts.specs.Digits.{number_spelled}
 use Rattle.checked_numbers.specs.Numbers.{is_number}
 
 -- the integer of this sign and size
@@ -12,7 +12,7 @@ integer false n = pos n
 -- an optional `-` and at least one digit
 abbrev pub integer_of : List ℕ → Option ℤ
 integer_of [] = None
-integer_of (c ∷ cs) = if c == 45 then option_map (integer true) (number_of cs) else option_map (integer false) (number_of (c ∷ cs))
+integer_of (c ∷ cs) = if c == 45 then option_map (integer true) (number_spelled cs) else option_map (integer false) (number_spelled (c ∷ cs))
 
 -- the first absolute value past the number range
 abbrev pub wide : ℕ

@@ -23,25 +23,25 @@ fault_behind rows (Ok None) = None
 fault_behind rows (Ok (Some row)) = if list_any (λ r. r.0 == row.0) rows then Some (Repeated row.0) else None
 
 -- a fault, and the number of its line
-pub record Fault : Type 0 where
+pub record TermsFault : Type 0 where
   pub line : ℕ
   pub kind : TermsKind
 
 -- a line's own fault, and else the first of the lines behind it
-abbrev pub or_later : Option TermsKind → ℕ → Option Fault → Option Fault
+abbrev pub or_later : Option TermsKind → ℕ → Option TermsFault → Option TermsFault
 or_later None line later = later
 or_later (Some kind) line later = Some (record { line = line; kind = kind })
 
 -- the first fault of lines that stand behind others
-unfoldable pub first_fault : (earlier later : List (List ℕ)) → Option Fault
-first_fault earlier [] = None
-first_fault earlier (l ∷ ls) = or_later (fault_behind (rows_in earlier) (said l)) (length earlier + 1) (first_fault (earlier ++ l ∷ []) ls)
+unfoldable pub first_line_fault : (earlier later : List (List ℕ)) → Option TermsFault
+first_line_fault earlier [] = None
+first_line_fault earlier (l ∷ ls) = or_later (fault_behind (rows_in earlier) (said l)) (length earlier + 1) (first_line_fault (earlier ++ l ∷ []) ls)
 
 -- the value, unless there is a fault
-abbrev pub unless : {A : Type 0} → Option Fault → A → Result A Fault
-unless None x = Ok x
-unless (Some fault) x = Err fault
+abbrev pub unless_fault : {A : Type 0} → Option TermsFault → A → Result A TermsFault
+unless_fault None x = Ok x
+unless_fault (Some fault) x = Err fault
 
 -- the table and the number of skipped rows, or the first bad line
-unfoldable pub stripped : List ℕ → Result Table Fault
-stripped bytes = unless (first_fault [] (lines bytes)) (table_of (rows_in (lines bytes)))
+unfoldable pub stripped : List ℕ → Result Table TermsFault
+stripped bytes = unless_fault (first_line_fault [] (lines bytes)) (table_of (rows_in (lines bytes)))

@@ -23,13 +23,13 @@ pub record IsRow (row : Row) : Type 0 where
   pub six_digits : row.0 < 1_000_000
 
 -- each name is less than those of the rows behind it
-abbrev pub IsAscending : List Row → Type 0
-IsAscending [] = Unit {0}
-IsAscending (r ∷ rs) = AllByRecursion (λ s. r.0 < s.0) rs × IsAscending rs
+abbrev pub HasAscendingNames : List Row → Type 0
+HasAscendingNames [] = Unit {0}
+HasAscendingNames (r ∷ rs) = AllByRecursion (λ s. r.0 < s.0) rs × HasAscendingNames rs
 
 -- what holds of every table
 pub record IsTable (table : Table) : Type 0 where
-  pub ascending : IsAscending table.rows
+  pub ascending : HasAscendingNames table.rows
   pub rows : All IsRow table.rows
 
 -- each row has at most 32,768 terms

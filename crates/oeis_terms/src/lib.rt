@@ -10,7 +10,7 @@ ghost use Rattle.loda_io.specs.Shelf.{OnlyRead};
 ghost use Rattle.oeis_terms.specs.Table.{IsBounded};
 ghost use Rattle.oeis_terms.specs.Stripped.{stripped};
 ghost use Rattle.oeis_terms.specs.Answers.{Parses, ParsesFile, ReadsTerms};
-ghost use Rattle.oeis_terms.specs.Reading.{error_in, ReadsLines};
+ghost use Rattle.oeis_terms.specs.Reading.{error_at_line, ReadsLines};
 
 mod cut;
 mod error;
@@ -30,7 +30,7 @@ use std::alloc::Global;
 pub use table::{Row, TermTable};
 
 fn in_line(line: u64, error: LineError) -> TermsError
-    ensures { result ≡ error_in line error }
+    ensures { result ≡ error_at_line line error }
 {
     match error {
         LineError::Bad(kind) => TermsError::Bad { line, kind },

@@ -3,9 +3,9 @@
 ghost use Rattle.std.specs.Prelude.{◌≡◌, ◌<◌, ◌≤◌, ◌^◌, length, IfOk, IfSome, OnErr, MatchResult, Ok, Err};
 ghost use Rattle.std.specs.Option.{option_map};
 ghost use Rattle.oeis_terms.specs.declared.error.LineError.TheVariants.{Memory};
-ghost use Rattle.text_parts.specs.Digits.{number_of};
-ghost use Rattle.oeis_terms.specs.Line.{name_at, usable_terms, is_ended, terms_of, row_at, is_silent, said};
-ghost use Rattle.oeis_terms.specs.Reading.{Gives, kept_after};
+ghost use Rattle.text_parts.specs.Digits.{number_spelled};
+ghost use Rattle.oeis_terms.specs.Line.{name_at, usable_terms, is_ended, terms_read, row_at, is_silent, said};
+ghost use Rattle.oeis_terms.specs.Reading.{LineGives, kept_after};
 
 use crate::cut::{ends_with, first_cut, trimmed};
 use crate::error::{LineError, TermsKind};
@@ -44,7 +44,7 @@ fn keep(terms: &mut Vec<Num>, is_wide: bool, term: Option<Num>) -> Result<bool, 
 
 // The usable terms of a row, the first of which stands in column 10.
 fn usable_terms(line: &[u8], terms: &mut Vec<Num>) -> Result<(), LineError>
-    ensures { Gives (λ _. terms.new.items) result (usable_terms line.now) }
+    ensures { LineGives (λ _. terms.new.items) result (usable_terms line.now) }
 {
     terms.clear();
     let mut is_wide = false;
@@ -69,7 +69,7 @@ fn is_ended(line: &[u8]) -> bool
 
 // What stands behind a name: a space, a comma, and terms that are each followed by a comma.
 fn terms_of(line: &[u8], terms: &mut Vec<Num>) -> Result<(), LineError>
-    ensures { Gives (λ _. terms.new.items) result (terms_of line.now) }
+    ensures { LineGives (λ _. terms.new.items) result (terms_read line.now) }
 {
     let [b' ', b',', rest @ ..] = line else {
         return Err(LineError::Bad(TermsKind::NoComma));
@@ -82,7 +82,7 @@ fn terms_of(line: &[u8], terms: &mut Vec<Num>) -> Result<(), LineError>
 
 #[tactic(auto, unfolding(crate::specs::Line::row_at))]
 fn row_at(line: &[u8], terms: &mut Vec<Num>) -> Result<u32, LineError>
-    ensures answer { Gives (λ name. (name, terms.new.items)) result (row_at line.now) }
+    ensures answer { LineGives (λ name. (name, terms.new.items)) result (row_at line.now) }
     ensures small { IfOk result (λ name. (0 < name) × (name < 1_000_000)) }
 {
     let (name, rest) = match name_at(line) {
@@ -103,7 +103,7 @@ fn is_silent(line: &[u8]) -> bool
 
 // What a line says: the name of its row, whose usable terms are put into the list, or nothing.
 pub fn read_line(line: &[u8], terms: &mut Vec<Num>) -> Result<Option<u32>, LineError>
-    ensures answer { Gives (option_map (λ name. (name, terms.new.items))) result (said line.now) }
+    ensures answer { LineGives (option_map (λ name. (name, terms.new.items))) result (said line.now) }
     ensures small { IfOk result (λ row. IfSome row (λ name. (0 < name) × (name < 1_000_000))) }
 {
     let line = trimmed(line);

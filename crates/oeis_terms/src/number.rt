@@ -2,7 +2,7 @@
 
 ghost use Rattle.std.specs.Prelude.{◌≡◌, ◌≤◌, ◌<◌, ◌+◌, ◌*◌, min};
 ghost use Rattle.std.specs.Option.{option_map};
-ghost use Rattle.text_parts.specs.Digits.{number_of};
+ghost use Rattle.text_parts.specs.Digits.{number_spelled};
 ghost use Rattle.oeis_terms.specs.Numbers.{integer, integer_of, as_number, wide};
 
 use checked_numbers::Num;

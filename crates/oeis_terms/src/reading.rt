@@ -1,7 +1,7 @@
 //! The lines of a file, read one after the other.
 
 ghost use Rattle.std.specs.Prelude.{◌≡◌, ℕ, ◌<◌, ◌+◌, ◌^◌, [], length, IfOk, false, slice_index_or, Some};
-ghost use Rattle.oeis_terms.specs.Reading.{Gives, Reflects, state_of, after_row, after_line};
+ghost use Rattle.oeis_terms.specs.Reading.{LineGives, Reflects, reading_state, after_row, after_line};
 
 use crate::error::{LineError, TermsKind};
 use crate::line::read_line;
@@ -25,7 +25,7 @@ pub struct Reading {
 
 // No line was read.
 pub fn nothing_read(alloc: Global) -> Result<Reading, AllocError>
-    ensures { IfOk result (λ r. Reflects [] (state_of r)) }
+    ensures { IfOk result (λ r. Reflects [] (reading_state r)) }
 {
     Ok(Reading {
         seen: none_seen(alloc, NAMES)?,
@@ -45,7 +45,7 @@ fn none_seen(alloc: Global, len: usize) -> Result<Vec<bool>, AllocError>
 fn add_row(alloc: Global, reading: &mut Reading, name: u32, terms: &[Num]) -> Result<(), LineError>
     requires name { name < length reading.old.seen.items }
     requires skipped { reading.old.skipped + 1 < 2 ^ 64 }
-    ensures { Gives (λ _. state_of reading.new) result (after_row (state_of reading.old) (Some (name, terms.now))) }
+    ensures { LineGives (λ _. reading_state reading.new) result (after_row (reading_state reading.old) (Some (name, terms.now))) }
 {
     let place = name as usize;
     if reading.seen[place] {
@@ -70,7 +70,7 @@ pub fn add_line(
 ) -> Result<(), LineError>
     requires size { length reading.old.seen.items ≡ 1_000_000 }
     requires skipped { reading.old.skipped + 1 < 2 ^ 64 }
-    ensures { Gives (λ _. state_of reading.new) result (after_line (state_of reading.old) line.now) }
+    ensures { LineGives (λ _. reading_state reading.new) result (after_line (reading_state reading.old) line.now) }
 {
     match read_line(line, terms) {
         Ok(Some(name)) => add_row(alloc, reading, name, terms.as_slice()),

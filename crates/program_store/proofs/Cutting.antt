@@ -4,7 +4,7 @@ use Rattle.std.specs.Prelude.{find, Some, None}
 use Rattle.std.specs.Option.{option_map}
 use Rattle.std.proofs.Math.Seq.{take-append_seam}
 use Rattle.std.proofs.lemmas.List.{append-nil}
-use Rattle.program_store.specs.Sections.{Line, Section, Cut, with_byte, whole_lines, numbered, text_of, section_of, add_line, begins_with, is_inner, cut_lines, cut_from}
+use Rattle.program_store.specs.Sections.{Line, Section, Cut, line_with_byte, whole_lines, numbered, bytes_of_lines, section_of, add_line, begins_with, is_inner, cut_lines, cut_from}
 use Rattle.program_store.specs.Files.{has_text}
 
 abbrev line_at : ℕ → List ℕ → Line
@@ -44,12 +44,12 @@ inner_some sign (b ∷ bs) h = omega arith
 inner_line : (sign : ℕ) (bytes line rest : List ℕ) → is_inner sign bytes ≡ true → bytes ≡ line ++ rest → 0 < length line → begins_with sign line ≡ false
 inner_line sign bytes line rest h parts some = sym (begins-front sign line rest some) ∙ ap (begins_with sign) (sym parts) ∙ inner_is sign bytes h
 
-first_of_lines : (sign n b : ℕ) (lines : List (List ℕ)) → eqb b sign ≡ true → (cut_lines sign (numbered n (with_byte b lines))).before ≡ []
+first_of_lines : (sign n b : ℕ) (lines : List (List ℕ)) → eqb b sign ≡ true → (cut_lines sign (numbered n (line_with_byte b lines))).before ≡ []
 unfolding cut_lines numbered
 first_of_lines sign n b [] same = rw same refl
 first_of_lines sign n b (line ∷ lines) same = rw same refl
 
-by_feed : (sign n b : ℕ) (bs : List ℕ) (feed : Bool) → eqb b sign ≡ true → (cut_lines sign (numbered n (cond feed ((b ∷ []) ∷ whole_lines bs) (with_byte b (whole_lines bs))))).before ≡ []
+by_feed : (sign n b : ℕ) (bs : List ℕ) (feed : Bool) → eqb b sign ≡ true → (cut_lines sign (numbered n (cond feed ((b ∷ []) ∷ whole_lines bs) (line_with_byte b (whole_lines bs))))).before ≡ []
 unfolding cut_lines numbered
 by_feed sign n b bs true same = rw same refl
 by_feed sign n b bs false same = first_of_lines sign n b (whole_lines bs) same
@@ -72,7 +72,7 @@ same_cut cut sections none same = λ i. record { before = none i; sections = sym
 pub record Passed (sign : ℕ) (cut : Cut) (whole : List ℕ) (n : ℕ) (rest : List ℕ) : Type 0 where
   pub done : List ℕ
   pub parts : whole ≡ done ++ rest
-  pub before : text_of cut.before ≡ done ++ text_of (cut_from sign n rest).before
+  pub before : bytes_of_lines cut.before ≡ done ++ bytes_of_lines (cut_from sign n rest).before
   pub sections : cut.sections ≡ (cut_from sign n rest).sections
 
 pub passed_none : (sign n : ℕ) (bytes : List ℕ) → Passed sign (cut_from sign n bytes) bytes n bytes
@@ -85,13 +85,13 @@ passed_line sign cut whole n rest line more so_far inner some parts lines =
     record {
       done = so_far.done ++ line;
       parts = so_far.parts ∙ ap (λ (t : List ℕ). so_far.done ++ t) parts ∙ sym (append_assoc so_far.done line more);
-      before = so_far.before ∙ ap (λ (c : Cut). so_far.done ++ text_of c.before) one ∙ sym (append_assoc so_far.done line (text_of (cut_from sign (n + 1) more).before));
+      before = so_far.before ∙ ap (λ (c : Cut). so_far.done ++ bytes_of_lines c.before) one ∙ sym (append_assoc so_far.done line (bytes_of_lines (cut_from sign (n + 1) more).before));
       sections = so_far.sections ∙ ap (λ (c : Cut). c.sections) one;
     }
 
 pub record Ended (sign : ℕ) (cut : Cut) (whole : List ℕ) (n : ℕ) (rest : List ℕ) : Type 0 where
   pub parts : whole ≡ take (length whole - length rest) whole ++ rest
-  pub text : take (length whole - length rest) whole ≡ text_of cut.before
+  pub text : take (length whole - length rest) whole ≡ bytes_of_lines cut.before
   pub left : cut_from sign n rest ≡ record { before = []; sections = cut.sections }
 
 pub passed_all : (sign : ℕ) (cut : Cut) (whole : List ℕ) (n : ℕ) (rest : List ℕ) → Passed sign cut whole n rest → is_inner sign rest ≡ false → Ended sign cut whole n rest
@@ -101,7 +101,7 @@ passed_all sign cut whole n rest so_far stop =
     let front : take (length whole - length rest) whole ≡ so_far.done = rw count (rw so_far.parts (take-append_seam so_far.done rest)) in
     record {
       parts = so_far.parts ∙ ap (λ (t : List ℕ). t ++ rest) (sym front);
-      text = front ∙ sym (so_far.before ∙ ap (λ (ls : List Line). so_far.done ++ text_of ls) none ∙ append-nil so_far.done);
+      text = front ∙ sym (so_far.before ∙ ap (λ (ls : List Line). so_far.done ++ bytes_of_lines ls) none ∙ append-nil so_far.done);
       left = same_cut (cut_from sign n rest) cut.sections none so_far.sections;
     }
 
@@ -150,7 +150,7 @@ by_header false line cut none = absurd (not_empty none)
     not_empty e = cc
 
 pub section_first : (sign n sign' n' : ℕ) (bytes header rest text : List ℕ) (left : Cut) → sign' ≡ sign → n' ≡ n + 1 → (cut_from sign n bytes).before ≡ [] → whole_lines bytes ≡ header ∷ whole_lines rest
-    → text ≡ text_of (cut_from sign' n' rest).before → left ≡ record { before = []; sections = (cut_from sign' n' rest).sections }
+    → text ≡ bytes_of_lines (cut_from sign' n' rest).before → left ≡ record { before = []; sections = (cut_from sign' n' rest).sections }
     → (cut_from sign n bytes).sections ≡ record { line = n; header = header; text = text } ∷ left.sections
 section_first sign n sign' n' bytes header rest text left same_sign next none lines is kept =
     let one : cut_from sign n bytes ≡ add_line (begins_with sign header) (line_at n header) (cut_from sign' n' rest) = cut-line sign n bytes header rest lines ∙ (λ i. add_line (begins_with sign header) (line_at n header) (cut_from (sym same_sign i) (sym next i) rest)) in

@@ -10,21 +10,21 @@ use Rattle.std.proofs.lemmas.Fmt.{first_decimal, decimal_nonempty}
 use Rattle.std.proofs.lemmas.List.{reverse-append, reverse-reverse, length-reverse}
 use Rattle.std.proofs.Math.Seq.{take-append_seam, get_or-append_seam}
 use Rattle.text_parts.specs.Blanks.{trim_front, without_return, trim_back}
-use Rattle.text_parts.specs.Digits.{digits_after, number_of, decimal_of}
+use Rattle.text_parts.specs.Digits.{digits_after, number_spelled, decimal_spelled}
 use Rattle.text_parts.proofs.NameBack.{name_back}
 use Rattle.loda_syntax.proofs.Bytes.{trim_back_plain, No, before_here, after_here, decimal_is, Plain, Inner, Inner-append, Inner-plain, IsInner, Plain-append, plain_blank, inner_space, return_kept}
 use Rattle.text_parts.specs.Names.{IsName, last_digits, name_text, if_not_zero, name_read}
 use Rattle.program_store.specs.Sections.{without_feed, begins_with}
-use Rattle.program_store.specs.Headers.{store_header, behind, is_space, header_content, name_and_count, store_header_read}
+use Rattle.program_store.specs.Headers.{store_header, text_behind, is_space, header_content, name_and_count, store_header_read}
 
 -- ---- a count
 
-first_kept : (ds : List ℕ) → 48 < get_or ds 0 0 → decimal_of ds ≡ number_of ds
+first_kept : (ds : List ℕ) → 48 < get_or ds 0 0 → decimal_spelled ds ≡ number_spelled ds
 first_kept [] lt = refl
 first_kept (d ∷ []) lt = refl
 first_kept (d ∷ c ∷ ds) lt = rw (ne_eqb d 48 (λ e. omega arith)) refl
 
-pub count_back : (count : ℕ) → 0 < count → count < 2 ^ 64 → decimal_of (decimal count) ≡ Some count
+pub count_back : (count : ℕ) → 0 < count → count < 2 ^ 64 → decimal_spelled (decimal count) ≡ Some count
 count_back count some small = first_kept (decimal count) (first_decimal count some small) ∙ (decimal_is count (omega arith)).value
 
 -- ---- the header's line
@@ -84,5 +84,5 @@ content_back q count small =
 pub header_back : (q count : ℕ) → IsName q → 0 < count → count < 2 ^ 64 → store_header_read (store_header q count ++ 10 ∷ []) ≡ Some (q, count)
 unfolding store_header_read
 header_back q count named some small =
-    ap (λ (t : List ℕ). option_and_then name_and_count (behind (codes "= ") t)) (content_back q count small ∙ header-parts q count)
+    ap (λ (t : List ℕ). option_and_then name_and_count (text_behind (codes "= ") t)) (content_back q count small ∙ header-parts q count)
     ∙ parts_back q count named some small

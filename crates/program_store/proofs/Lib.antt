@@ -20,5 +20,5 @@ pub mod HeaderBack
 pub mod SectionBack
 -- The text of a store is read as that store.
 pub mod StoreBack
--- Stores with one entry put in.
+-- Stores with one entry put in, and libraries with one program put in place.
 pub mod Puts

@@ -6,7 +6,7 @@ use Rattle.std.proofs.lemmas.List.{append-nil}
 use Rattle.loda_syntax.specs.Answers.{AddsFront}
 use Rattle.program_store.specs.declared.published.Published.{Published}
 use Rattle.program_store.specs.Store.{Store, published_at, IsStore}
-use Rattle.program_store.specs.StoreText.{entry_text, store_text}
+use Rattle.program_store.specs.StoreText.{published_text, store_text}
 use Rattle.program_store.proofs.Rising.{text_above, text_above-zero, text_above-next, text_above-none}
 
 -- the first part of a text's beginning is a first part of the text
@@ -31,14 +31,14 @@ pub printed_none : (s : Store) (old : List ℕ) → Printed s old 0 old
 printed_none s old = record { printed = []; out_is = sym (append-nil old); left = λ kept. text_above-zero s kept }
 
 module _ (s : Store) (old : List ℕ) (last : ℕ) (out : List ℕ) (so_far : Printed s old last out) (kept : IsStore s) where
-  pub printed_next : (n : ℕ) (e : Published) (new : List ℕ) → last < n → published_at s n ≡ Some e → ((k : ℕ) → last < k → k < n → published_at s k ≡ None) → new ≡ out ++ entry_text (n, e) → Printed s old n new
+  pub printed_next : (n : ℕ) (e : Published) (new : List ℕ) → last < n → published_at s n ≡ Some e → ((k : ℕ) → last < k → k < n → published_at s k ≡ None) → new ≡ out ++ published_text (n, e) → Printed s old n new
   printed_next n e new lt found none is = record {
-    printed = so_far.printed ++ entry_text (n, e);
-    out_is = is ∙ ap (λ (t : List ℕ). t ++ entry_text (n, e)) so_far.out_is ∙ append_assoc old so_far.printed (entry_text (n, e));
-    left = λ kept. append_assoc so_far.printed (entry_text (n, e)) (text_above s n) ∙ ap (λ (t : List ℕ). so_far.printed ++ t) (sym (text_above-next s last n e kept lt found none)) ∙ so_far.left kept;
+    printed = so_far.printed ++ published_text (n, e);
+    out_is = is ∙ ap (λ (t : List ℕ). t ++ published_text (n, e)) so_far.out_is ∙ append_assoc old so_far.printed (published_text (n, e));
+    left = λ kept. append_assoc so_far.printed (published_text (n, e)) (text_above s n) ∙ ap (λ (t : List ℕ). so_far.printed ++ t) (sym (text_above-next s last n e kept lt found none)) ∙ so_far.left kept;
   }
 
-  pub printed_front : (n : ℕ) (e : Published) (new : List ℕ) → last < n → published_at s n ≡ Some e → ((k : ℕ) → last < k → k < n → published_at s k ≡ None) → AddsFront out new (entry_text (n, e)) → AddsFront old new (store_text s)
+  pub printed_front : (n : ℕ) (e : Published) (new : List ℕ) → last < n → published_at s n ≡ Some e → ((k : ℕ) → last < k → k < n → published_at s k ≡ None) → AddsFront out new (published_text (n, e)) → AddsFront old new (store_text s)
   printed_front n e new lt found none adds = record {
     front = so_far.printed ++ adds.front;
     rest = adds.rest ++ text_above s n;

@@ -9,7 +9,7 @@ use Rattle.std.proofs.lemmas.Bool.Decides.{nat_tests}
 use Rattle.program_store.specs.declared.published.Published.{Published}
 use Rattle.text_parts.specs.Names.{IsName}
 use Rattle.program_store.specs.Store.{Store, published_at, IsStore}
-use Rattle.program_store.specs.StoreText.{entry_text, store_text}
+use Rattle.program_store.specs.StoreText.{published_text, store_text}
 
 abbrev Entries : Type 0
 Entries = List (ℕ × Published)
@@ -130,16 +130,16 @@ pub entries-rising : (s : Store) → IsStore s → Rising 0 (entries s)
 entries-rising s kept = first_named (entries s) (entries_sorted s) (λ q e h. kept.named q e (published-find s q ∙ h))
 
 abbrev pub text_above : Store → ℕ → List ℕ
-text_above s a = concat (map entry_text (above a (entries s)))
+text_above s a = concat (map published_text (above a (entries s)))
 
 pub text_above-zero : (s : Store) → IsStore s → text_above s 0 ≡ store_text s
 unfolding store_text
-text_above-zero s kept = ap (λ (es : Entries). concat (map entry_text es)) (rising_above 0 0 (entries s) (entries-rising s kept) (omega arith))
+text_above-zero s kept = ap (λ (es : Entries). concat (map published_text es)) (rising_above 0 0 (entries s) (entries-rising s kept) (omega arith))
 
-pub text_above-next : (s : Store) (a n : ℕ) (e : Published) → IsStore s → a < n → published_at s n ≡ Some e → ((k : ℕ) → a < k → k < n → published_at s k ≡ None) → text_above s a ≡ entry_text (n, e) ++ text_above s n
+pub text_above-next : (s : Store) (a n : ℕ) (e : Published) → IsStore s → a < n → published_at s n ≡ Some e → ((k : ℕ) → a < k → k < n → published_at s k ≡ None) → text_above s a ≡ published_text (n, e) ++ text_above s n
 text_above-next s a n e kept lt found none =
-    ap (λ (es : Entries). concat (map entry_text es))
+    ap (λ (es : Entries). concat (map published_text es))
     (above_next 0 a n e (entries s) (entries-rising s kept) lt (sym (published-find s n) ∙ found) (λ k more less. sym (published-find s k) ∙ none k more less))
 
 pub text_above-none : (s : Store) (a : ℕ) → IsStore s → ((k : ℕ) → a < k → published_at s k ≡ None) → text_above s a ≡ []
-text_above-none s a kept none = ap (λ (es : Entries). concat (map entry_text es)) (above_all 0 a (entries s) (entries-rising s kept) (λ k more. sym (published-find s k) ∙ none k more))
+text_above-none s a kept none = ap (λ (es : Entries). concat (map published_text es)) (above_all 0 a (entries s) (entries-rising s kept) (λ k more. sym (published-find s k) ∙ none k more))

@@ -13,9 +13,9 @@ use Rattle.loda_syntax.specs.Canon.{operand_texts, instr_text, depth_at, depth_a
 use Rattle.loda_syntax.proofs.Bytes.{No, No-newline}
 use Rattle.loda_syntax.proofs.Round.{line_inner}
 use Rattle.program_store.specs.declared.published.Published.{Published}
-use Rattle.program_store.specs.Sections.{Cut, with_byte, whole_lines, begins_with, is_inner, text_of, add_line, cut_from}
+use Rattle.program_store.specs.Sections.{Cut, line_with_byte, whole_lines, begins_with, is_inner, bytes_of_lines, add_line, cut_from}
 use Rattle.program_store.specs.Headers.{store_header}
-use Rattle.program_store.specs.StoreText.{entry_text}
+use Rattle.program_store.specs.StoreText.{published_text}
 use Rattle.program_store.proofs.Cutting.{cut-line, at_header}
 use Rattle.program_store.proofs.HeaderBack.{header-parts, header_inner}
 
@@ -24,7 +24,7 @@ use Rattle.program_store.proofs.HeaderBack.{header-parts, header_inner}
 pub lines_first : (line rest : List ℕ) → No (λ b. b == 10) line → whole_lines (line ++ 10 ∷ rest) ≡ (line ++ 10 ∷ []) ∷ whole_lines rest
 unfolding whole_lines
 lines_first [] rest none = refl
-lines_first (b ∷ bs) rest none = rw none.0 (ap (with_byte b) (lines_first bs rest none.1))
+lines_first (b ∷ bs) rest none = rw none.0 (ap (line_with_byte b) (lines_first bs rest none.1))
 
 verb_begins : (v : Verb) (rest : List ℕ) → begins_with 61 (verb_text v ++ rest) ≡ false
 verb_begins verb.Mov rest = refl
@@ -59,12 +59,12 @@ text_begins (suc n) i rest = refl
 
 pub record Behind (n : ℕ) (bytes rest text : List ℕ) : Type 0 where
   pub next : ℕ
-  pub before : text_of (cut_from 61 n bytes).before ≡ text
+  pub before : bytes_of_lines (cut_from 61 n bytes).before ≡ text
   pub sections : (cut_from 61 n bytes).sections ≡ (cut_from 61 next rest).sections
 
 lines_behind : (is : List Instr) (depth n : ℕ) (rest : List ℕ) → All IsInstr is → is_inner 61 rest ≡ false → Behind n (lines_text depth is ++ rest) rest (lines_text depth is)
 unfolding lines_text line_text
-lines_behind [] depth n rest good stop = record { next = n; before = ap text_of (at_header 61 n rest stop); sections = refl }
+lines_behind [] depth n rest good stop = record { next = n; before = ap bytes_of_lines (at_header 61 n rest stop); sections = refl }
 lines_behind (i ∷ is) depth n rest good stop =
     let spaces = 2 * depth_at depth i in
     let line = replicate spaces 32 ++ instr_text i in
@@ -77,7 +77,7 @@ lines_behind (i ∷ is) depth n rest good stop =
     ∙ ap (λ b. add_line b (record { number = n; bytes = line ++ 10 ∷ [] }) (cut_from 61 (n + 1) (left ++ rest))) (text_begins spaces i (10 ∷ [])) in
     record {
       next = more.next;
-      before = ap (λ (c : Cut). text_of c.before) cut ∙ ap (λ (t : List ℕ). (line ++ 10 ∷ []) ++ t) more.before;
+      before = ap (λ (c : Cut). bytes_of_lines c.before) cut ∙ ap (λ (t : List ℕ). (line ++ 10 ∷ []) ++ t) more.before;
       sections = ap (λ (c : Cut). c.sections) cut ∙ more.sections;
     }
 
@@ -89,18 +89,18 @@ program_behind p n rest formed stop = lines_behind (instrs p) 0 n rest formed.ea
 
 pub record Cuts (n : ℕ) (q : ℕ) (e : Published) (rest : List ℕ) : Type 0 where
   pub next : ℕ
-  pub before : (cut_from 61 n (entry_text (q, e) ++ rest)).before ≡ []
-  pub sections : (cut_from 61 n (entry_text (q, e) ++ rest)).sections ≡ record { line = n; header = store_header q e.checked ++ 10 ∷ []; text = canon e.program } ∷ (cut_from 61 next rest).sections
+  pub before : (cut_from 61 n (published_text (q, e) ++ rest)).before ≡ []
+  pub sections : (cut_from 61 n (published_text (q, e) ++ rest)).sections ≡ record { line = n; header = store_header q e.checked ++ 10 ∷ []; text = canon e.program } ∷ (cut_from 61 next rest).sections
 
 header_begins : (q count : ℕ) (rest : List ℕ) → begins_with 61 (store_header q count ++ rest) ≡ true
 header_begins q count rest = rw header-parts refl
 
-pub entry_begins : (q : ℕ) (e : Published) (rest : List ℕ) → is_inner 61 (entry_text (q, e) ++ rest) ≡ false
-unfolding entry_text
+pub entry_begins : (q : ℕ) (e : Published) (rest : List ℕ) → is_inner 61 (published_text (q, e) ++ rest) ≡ false
+unfolding published_text
 entry_begins q e rest = rw header-parts refl
 
 pub entry_cut : (n q : ℕ) (e : Published) (rest : List ℕ) → IsProgram (instrs e.program) → e.checked < 2 ^ 64 → is_inner 61 rest ≡ false → Cuts n q e rest
-unfolding entry_text
+unfolding published_text
 entry_cut n q e rest formed small stop =
     let header = store_header q e.checked in
     let text = canon e.program in

@@ -12,8 +12,8 @@ use Rattle.program_store.specs.declared.published.Published.{Published}
 use Rattle.program_store.specs.declared.published.Proposal.{Proposal}
 use Rattle.program_store.specs.Sections.{Section}
 use Rattle.program_store.specs.Headers.{capped_header, past_counts}
-use Rattle.program_store.specs.Files.{Fault, fault, entry_fault, entry_of, proposal_of, program_read}
-use Rattle.program_store.specs.Answers.{Answers}
+use Rattle.program_store.specs.Files.{StoreFault, fault, entry_fault, entry_in_file, proposal_in_file, program_read}
+use Rattle.program_store.specs.Answers.{ReadsAs}
 
 pub header_none : (h : Option (ℕ × ℕ)) → None ≡ capped_header h → h ≡ None
 header_none None e = refl
@@ -31,54 +31,54 @@ counted : (last name checked : ℕ) → entry_fault last name checked ≡ None �
 counted last name checked e = grind (arith, nat_tests)
 
 -- an error that answers the first of two readings answers both
-pub Answers-bind : {A B : Type 0} (error : StoreError) (read : Result A Fault) (next : A → Result B Fault) → Answers {A = A} (Err error) read → Answers {A = B} (Err error) (read >>= next)
+pub Answers-bind : {A B : Type 0} (error : StoreError) (read : Result A StoreFault) (next : A → Result B StoreFault) → ReadsAs {A = A} (Err error) read → ReadsAs {A = B} (Err error) (read >>= next)
 Answers-bind {A = A} errors.Failed read next h = h
 Answers-bind {A = A} (errors.FileTooLarge size) read next h = h
 Answers-bind {A = A} (errors.LineTooLong line) read next h = h
-Answers-bind {A = A} (errors.Bad line kind) read next h = ap (λ (r : Result A Fault). r >>= next) h
+Answers-bind {A = A} (errors.Bad line kind) read next h = ap (λ (r : Result A StoreFault). r >>= next) h
 Answers-bind {A = A} errors.Memory read next h = h
 
 module _ (last : ℕ) (section : Section) (h : Option (ℕ × ℕ)) where
-  pub entry_unread : None ≡ capped_header h → entry_of last section h ≡ fault section.line BadHeader
-  entry_unread e = ap (entry_of last section) (header_none h e)
+  pub entry_unread : None ≡ capped_header h → entry_in_file last section h ≡ fault section.line BadHeader
+  entry_unread e = ap (entry_in_file last section) (header_none h e)
 
-  pub entry_refused : (name checked : ℕ) (kind : StoreKind) → Some (name, checked) ≡ capped_header h → entry_fault last name checked ≡ Some kind → entry_of last section h ≡ fault section.line kind
+  pub entry_refused : (name checked : ℕ) (kind : StoreKind) → Some (name, checked) ≡ capped_header h → entry_fault last name checked ≡ Some kind → entry_in_file last section h ≡ fault section.line kind
   entry_refused name checked kind e refused =
       let found = header_some h name checked e in
       let same : entry_fault last name found.0 ≡ Some kind = sym (fault-capped last name found.0) ∙ ap (entry_fault last name) (sym found.2) ∙ refused in
-      ap (entry_of last section) found.1 ∙ rw same refl
+      ap (entry_in_file last section) found.1 ∙ rw same refl
 
   pub entry_kept : (name checked : ℕ) → Some (name, checked) ≡ capped_header h → entry_fault last name checked ≡ None
-      → entry_of last section h ≡ (program_read section >>= λ program. Ok (name, record { program = program; checked = checked }))
+      → entry_in_file last section h ≡ (program_read section >>= λ program. Ok (name, record { program = program; checked = checked }))
   entry_kept name checked e kept =
       let found = header_some h name checked e in
       let few = counted last name checked kept in
       let count : found.0 ≡ checked = omega (arith, few, found.2) in
       let same : entry_fault last name found.0 ≡ None = ap (entry_fault last name) count ∙ kept in
-      ap (entry_of last section) found.1 ∙ rw same (ap (λ n. program_read section >>= λ program. Ok (name, record { program = program; checked = n })) count)
+      ap (entry_in_file last section) found.1 ∙ rw same (ap (λ n. program_read section >>= λ program. Ok (name, record { program = program; checked = n })) count)
 
-  pub Answers-entry : (name checked : ℕ) (error : StoreError) → Some (name, checked) ≡ capped_header h → entry_fault last name checked ≡ None → Answers {A = Text} (Err error) (program_read section) → Answers {A = ℕ × Published} (Err error) (entry_of last section h)
-  Answers-entry name checked error e kept h0 = subst (λ (r : Result (ℕ × Published) Fault). Answers {A = ℕ × Published} (Err error) r) (sym (entry_kept name checked e kept)) (Answers-bind error (program_read section) _ h0)
+  pub Answers-entry : (name checked : ℕ) (error : StoreError) → Some (name, checked) ≡ capped_header h → entry_fault last name checked ≡ None → ReadsAs {A = Text} (Err error) (program_read section) → ReadsAs {A = ℕ × Published} (Err error) (entry_in_file last section h)
+  Answers-entry name checked error e kept h0 = subst (λ (r : Result (ℕ × Published) StoreFault). ReadsAs {A = ℕ × Published} (Err error) r) (sym (entry_kept name checked e kept)) (Answers-bind error (program_read section) _ h0)
 
-  pub entry_whole : (name checked : ℕ) (program : Text) → Some (name, checked) ≡ capped_header h → entry_fault last name checked ≡ None → program_read section ≡ Ok program → entry_of last section h ≡ Ok (name, record { program = program; checked = checked })
-  entry_whole name checked program e kept is = entry_kept name checked e kept ∙ ap (λ (r : Result Text Fault). r >>= λ program. Ok (name, record { program = program; checked = checked })) is
+  pub entry_whole : (name checked : ℕ) (program : Text) → Some (name, checked) ≡ capped_header h → entry_fault last name checked ≡ None → program_read section ≡ Ok program → entry_in_file last section h ≡ Ok (name, record { program = program; checked = checked })
+  entry_whole name checked program e kept is = entry_kept name checked e kept ∙ ap (λ (r : Result Text StoreFault). r >>= λ program. Ok (name, record { program = program; checked = checked })) is
 
 module _ (before : ℕ) (section : Section) (h : Option ℕ) where
-  pub proposal_unread : None ≡ h → proposal_of (before + 1) section h ≡ fault section.line BadHeader
-  proposal_unread e = ap (proposal_of (before + 1) section) (sym e)
+  pub proposal_unread : None ≡ h → proposal_in_file (before + 1) section h ≡ fault section.line BadHeader
+  proposal_unread e = ap (proposal_in_file (before + 1) section) (sym e)
 
-  pub proposal_refused : (name : ℕ) → Some name ≡ h → before ≡ 1000000 → proposal_of (before + 1) section h ≡ fault section.line TooMany
+  pub proposal_refused : (name : ℕ) → Some name ≡ h → before ≡ 1000000 → proposal_in_file (before + 1) section h ≡ fault section.line TooMany
   proposal_refused name e last =
       let more : nat_lt 1000000 (before + 1) ≡ true = grind (arith, nat_tests) in
-      ap (proposal_of (before + 1) section) (sym e) ∙ rw more refl
+      ap (proposal_in_file (before + 1) section) (sym e) ∙ rw more refl
 
-  proposal_kept : (name : ℕ) → Some name ≡ h → (before ≡ 1000000 → ⊥) → before ≤ 1000000 → proposal_of (before + 1) section h ≡ (program_read section >>= λ program. Ok (record { name = name; program = program }))
+  proposal_kept : (name : ℕ) → Some name ≡ h → (before ≡ 1000000 → ⊥) → before ≤ 1000000 → proposal_in_file (before + 1) section h ≡ (program_read section >>= λ program. Ok (record { name = name; program = program }))
   proposal_kept name e other le =
       let few : nat_lt 1000000 (before + 1) ≡ false = grind (arith, nat_tests) in
-      ap (proposal_of (before + 1) section) (sym e) ∙ rw few refl
+      ap (proposal_in_file (before + 1) section) (sym e) ∙ rw few refl
 
-  pub proposal_whole : (name : ℕ) (program : Text) → Some name ≡ h → (before ≡ 1000000 → ⊥) → before ≤ 1000000 → program_read section ≡ Ok program → proposal_of (before + 1) section h ≡ Ok (record { name = name; program = program })
-  proposal_whole name program e other le is = proposal_kept name e other le ∙ ap (λ (r : Result Text Fault). r >>= λ program. Ok (record { name = name; program = program })) is
+  pub proposal_whole : (name : ℕ) (program : Text) → Some name ≡ h → (before ≡ 1000000 → ⊥) → before ≤ 1000000 → program_read section ≡ Ok program → proposal_in_file (before + 1) section h ≡ Ok (record { name = name; program = program })
+  proposal_whole name program e other le is = proposal_kept name e other le ∙ ap (λ (r : Result Text StoreFault). r >>= λ program. Ok (record { name = name; program = program })) is
 
-  pub Answers-proposal : (name : ℕ) (error : StoreError) → Some name ≡ h → (before ≡ 1000000 → ⊥) → before ≤ 1000000 → Answers {A = Text} (Err error) (program_read section) → Answers {A = Proposal} (Err error) (proposal_of (before + 1) section h)
-  Answers-proposal name error e other le h0 = subst (λ (r : Result Proposal Fault). Answers {A = Proposal} (Err error) r) (sym (proposal_kept name e other le)) (Answers-bind error (program_read section) _ h0)
+  pub Answers-proposal : (name : ℕ) (error : StoreError) → Some name ≡ h → (before ≡ 1000000 → ⊥) → before ≤ 1000000 → ReadsAs {A = Text} (Err error) (program_read section) → ReadsAs {A = Proposal} (Err error) (proposal_in_file (before + 1) section h)
+  Answers-proposal name error e other le h0 = subst (λ (r : Result Proposal StoreFault). ReadsAs {A = Proposal} (Err error) r) (sym (proposal_kept name e other le)) (Answers-bind error (program_read section) _ h0)

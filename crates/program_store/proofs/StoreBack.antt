@@ -17,7 +17,7 @@ use Rattle.program_store.specs.Store.{Store, published_at, put_all, IsStore}
 use Rattle.program_store.specs.Sections.{Cut, is_inner, cut_from}
 use Rattle.program_store.specs.Headers.{store_header}
 use Rattle.program_store.specs.Files.{entry_fault, entry_read, entries_read, program_read, store_read}
-use Rattle.program_store.specs.StoreText.{entry_text, store_text, ReadsBack}
+use Rattle.program_store.specs.StoreText.{published_text, store_text, StoreReadsBack}
 use Rattle.program_store.proofs.Cutting.{at_header, cut-nil}
 use Rattle.program_store.proofs.HeaderBack.{header_back}
 use Rattle.program_store.proofs.SectionBack.{entry_begins, entry_cut}
@@ -62,7 +62,7 @@ entry_back last n q e lt good =
     rw (header, fault, program) refl
 
 abbrev text_of_entries : Entries → List ℕ
-text_of_entries es = concat (map entry_text es)
+text_of_entries es = concat (map published_text es)
 
 entries_begin : (es : Entries) → is_inner 61 (text_of_entries es) ≡ false
 entries_begin [] = refl
@@ -108,7 +108,7 @@ put_all-entries s rising = same_map nat_cmp_total nat_cmp-IsAntisymmetric _ _ (�
 
 -- ---- the whole text
 
-pub store_back : (s : Store) → IsStore s → ReadsBack s
+pub store_back : (s : Store) → IsStore s → StoreReadsBack s
 unfolding store_text store_read
 store_back s kept counts =
     let rising = entries-rising s kept in

@@ -14,18 +14,18 @@ use Rattle.program_store.specs.Sections.{Line, Section, bare, cut_from}
 use Rattle.program_store.specs.Headers.{store_header_read, candidate_header_read}
 
 -- a fault, and the line of the file that it stands in, counted from 1
-pub record Fault : Type 0 where
+pub record StoreFault : Type 0 where
   pub line : ℕ
   pub kind : StoreKind
 
 -- this fault at this line
-abbrev pub fault : {A : Type 0} → ℕ → StoreKind → Result A Fault
+abbrev pub fault : {A : Type 0} → ℕ → StoreKind → Result A StoreFault
 fault line kind = Err (record { line = line; kind = kind })
 
 -- a fault that there may be, else what follows
-abbrev pub unless : {A : Type 0} → ℕ → Option StoreKind → Result A Fault → Result A Fault
-unless line None next = next
-unless line (Some kind) next = fault line kind
+abbrev pub unless_kind : {A : Type 0} → ℕ → Option StoreKind → Result A StoreFault → Result A StoreFault
+unless_kind line None next = next
+unless_kind line (Some kind) next = fault line kind
 
 -- ---- the lines before the first header
 
@@ -39,28 +39,28 @@ unfoldable pub has_text : List ℕ → Bool
 has_text line = is_text (trim_front (bare line))
 
 -- such a line is a bad header
-abbrev pub no_header : {A : Type 0} → Option Line → Result A Fault → Result A Fault
+abbrev pub no_header : {A : Type 0} → Option Line → Result A StoreFault → Result A StoreFault
 no_header None next = next
 no_header (Some line) next = fault line.number BadHeader
 
 -- the fault of the first such line before the first header, else what follows
-abbrev pub after_lines : {A : Type 0} → List Line → Result A Fault → Result A Fault
+abbrev pub after_lines : {A : Type 0} → List Line → Result A StoreFault → Result A StoreFault
 after_lines before next = no_header (find (λ (line : Line). has_text line.bytes) before) next
 
 -- ---- a section's program
 
 -- a fault of the text behind a header, whose line 1 is the line after the header's
-abbrev pub in_file : {A : Type 0} → ℕ → TextFault → Result A Fault
+abbrev pub in_file : {A : Type 0} → ℕ → TextFault → Result A StoreFault
 in_file header text_fault = fault (header + text_fault.line) (Syntax text_fault.kind)
 
 -- the program, or its fault in the file
-abbrev pub program_at : ℕ → Result Text TextFault → Result Text Fault
-program_at header (Ok program) = Ok program
-program_at header (Err text_fault) = in_file header text_fault
+abbrev pub program_in_file : ℕ → Result Text TextFault → Result Text StoreFault
+program_in_file header (Ok program) = Ok program
+program_in_file header (Err text_fault) = in_file header text_fault
 
 -- the program of a section's text, or its fault in the file
-unfoldable pub program_read : Section → Result Text Fault
-program_read section = program_at section.line (text_read section.text)
+unfoldable pub program_read : Section → Result Text StoreFault
+program_read section = program_in_file section.line (text_read section.text)
 
 -- ---- a store file
 
@@ -69,16 +69,16 @@ abbrev pub entry_fault : ℕ → ℕ → ℕ → Option StoreKind
 entry_fault last name count = if name == last then Some Repeated else (if nat_lt name last then Some OutOfOrder else (if nat_le 8 count && nat_le count 32768 then None else Some BadCount))
 
 -- the entry of a section by what its header was read as
-abbrev pub entry_of : ℕ → Section → Option (ℕ × ℕ) → Result (ℕ × Published) Fault
-entry_of last section None = fault section.line BadHeader
-entry_of last section (Some header) = unless section.line (entry_fault last header.0 header.1) (program_read section >>= λ program. Ok (header.0, record { program = program; checked = header.1 }))
+abbrev pub entry_in_file : ℕ → Section → Option (ℕ × ℕ) → Result (ℕ × Published) StoreFault
+entry_in_file last section None = fault section.line BadHeader
+entry_in_file last section (Some header) = unless_kind section.line (entry_fault last header.0 header.1) (program_read section >>= λ program. Ok (header.0, record { program = program; checked = header.1 }))
 
 -- the entry of a section, or the first of its faults
-unfoldable pub entry_read : ℕ → Section → Result (ℕ × Published) Fault
-entry_read last section = entry_of last section (store_header_read section.header)
+unfoldable pub entry_read : ℕ → Section → Result (ℕ × Published) StoreFault
+entry_read last section = entry_in_file last section (store_header_read section.header)
 
 -- the entries of the sections, or the first fault
-unfoldable pub entries_read : ℕ → List Section → Result (List (ℕ × Published)) Fault
+unfoldable pub entries_read : ℕ → List Section → Result (List (ℕ × Published)) StoreFault
 entries_read last [] = Ok []
 entries_read last (section ∷ sections) = do
   entry ← entry_read last section
@@ -86,7 +86,7 @@ entries_read last (section ∷ sections) = do
   Ok (entry ∷ entries)
 
 -- the store of a file's bytes, or the file's first fault
-unfoldable pub store_read : List ℕ → Result Store Fault
+unfoldable pub store_read : List ℕ → Result Store StoreFault
 store_read bytes =
     let cut = cut_from 61 1 bytes in
     after_lines cut.before (entries_read 0 cut.sections >>= λ entries. Ok (put_all map.empty entries))
@@ -94,16 +94,16 @@ store_read bytes =
 -- ---- a candidates file
 
 -- the proposal of a section by what its header was read as
-abbrev pub proposal_of : ℕ → Section → Option ℕ → Result Proposal Fault
-proposal_of number section None = fault section.line BadHeader
-proposal_of number section (Some name) = unless section.line (if nat_lt 1000000 number then Some TooMany else None) (program_read section >>= λ program. Ok (record { name = name; program = program }))
+abbrev pub proposal_in_file : ℕ → Section → Option ℕ → Result Proposal StoreFault
+proposal_in_file number section None = fault section.line BadHeader
+proposal_in_file number section (Some name) = unless_kind section.line (if nat_lt 1000000 number then Some TooMany else None) (program_read section >>= λ program. Ok (record { name = name; program = program }))
 
 -- the proposal of a section, which is the section of this number, counted from 1, or the first of its faults
-unfoldable pub proposal_read : ℕ → Section → Result Proposal Fault
-proposal_read number section = proposal_of number section (candidate_header_read section.header)
+unfoldable pub proposal_read : ℕ → Section → Result Proposal StoreFault
+proposal_read number section = proposal_in_file number section (candidate_header_read section.header)
 
 -- the proposals of the sections, of which the first has this number, or the first fault
-unfoldable pub proposals_read : ℕ → List Section → Result (List Proposal) Fault
+unfoldable pub proposals_read : ℕ → List Section → Result (List Proposal) StoreFault
 proposals_read number [] = Ok []
 proposals_read number (section ∷ sections) = do
   proposal ← proposal_read number section
@@ -111,7 +111,7 @@ proposals_read number (section ∷ sections) = do
   Ok (proposal ∷ proposals)
 
 -- the proposals of a file's bytes, or the file's first fault
-unfoldable pub candidates_read : List ℕ → Result (List Proposal) Fault
+unfoldable pub candidates_read : List ℕ → Result (List Proposal) StoreFault
 candidates_read bytes =
     let cut = cut_from 63 1 bytes in
     after_lines cut.before (proposals_read 1 cut.sections)

@@ -4,14 +4,14 @@ use Rattle.std.specs.List.{concat}
 use Rattle.text_parts.specs.Blanks.{without_return}
 
 -- the lines with one more byte in front
-abbrev pub with_byte : ℕ → List (List ℕ) → List (List ℕ)
-with_byte b [] = (b ∷ []) ∷ []
-with_byte b (line ∷ lines) = (b ∷ line) ∷ lines
+abbrev pub line_with_byte : ℕ → List (List ℕ) → List (List ℕ)
+line_with_byte b [] = (b ∷ []) ∷ []
+line_with_byte b (line ∷ lines) = (b ∷ line) ∷ lines
 
 -- the lines of a file, each with the LF that ends it; behind the last LF there is a line only where there are bytes
 unfoldable pub whole_lines : List ℕ → List (List ℕ)
 whole_lines [] = []
-whole_lines (b ∷ bs) = if b == 10 then (b ∷ []) ∷ whole_lines bs else with_byte b (whole_lines bs)
+whole_lines (b ∷ bs) = if b == 10 then (b ∷ []) ∷ whole_lines bs else line_with_byte b (whole_lines bs)
 
 -- a line without the LF that ends it
 unfoldable pub without_feed : List ℕ → List ℕ
@@ -43,12 +43,12 @@ pub record Cut : Type 0 where
   pub sections : List Section
 
 -- the bytes of lines, one after the other
-abbrev pub text_of : List Line → List ℕ
-text_of lines = concat (map (λ (line : Line). line.bytes) lines)
+abbrev pub bytes_of_lines : List Line → List ℕ
+bytes_of_lines lines = concat (map (λ (line : Line). line.bytes) lines)
 
 -- a header with the text of these lines
 abbrev pub section_of : Line → List Line → Section
-section_of header lines = record { line = header.number; header = header.bytes; text = text_of lines }
+section_of header lines = record { line = header.number; header = header.bytes; text = bytes_of_lines lines }
 
 -- what is cut behind a line, with that line: it is a header, or it stands before the next one
 abbrev pub add_line : Bool → Line → Cut → Cut

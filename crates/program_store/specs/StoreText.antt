@@ -9,12 +9,12 @@ use Rattle.program_store.specs.Headers.{store_header}
 use Rattle.program_store.specs.Files.{store_read}
 
 -- an entry: its header, LF, and its program's canonical text
-unfoldable pub entry_text : ℕ × Published → List ℕ
-entry_text entry = store_header entry.0 entry.1.checked ++ 10 ∷ canon entry.1.program
+unfoldable pub published_text : ℕ × Published → List ℕ
+published_text entry = store_header entry.0 entry.1.checked ++ 10 ∷ canon entry.1.program
 
 -- the entries in ascending order of their names
 unfoldable pub store_text : Store → List ℕ
-store_text s = concat (map entry_text (entries s))
+store_text s = concat (map published_text (entries s))
 
 -- each count is one that a store file may have
 pub record HasCounts (s : Store) : Type 0 where
@@ -22,5 +22,5 @@ pub record HasCounts (s : Store) : Type 0 where
   pub greatest : (q : ℕ) (e : Published) → published_at s q ≡ Some e → e.checked ≤ 32768
 
 -- the text of a store whose counts a file may have is read as that store
-abbrev pub ReadsBack : Store → Type 0
-ReadsBack s = HasCounts s → store_read (store_text s) ≡ Ok s
+abbrev pub StoreReadsBack : Store → Type 0
+StoreReadsBack s = HasCounts s → store_read (store_text s) ≡ Ok s

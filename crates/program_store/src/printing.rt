@@ -4,14 +4,13 @@ ghost use Rattle.std.specs.Prelude.{◌≡◌, ◌++◌, [], ◌∷◌, ◌+◌,
 ghost use Rattle.loda_syntax.specs.Answers.{AddsFront};
 ghost use Rattle.text_parts.specs.Names.{name_text};
 ghost use Rattle.program_store.specs.Headers.{store_header};
-ghost use Rattle.program_store.specs.StoreText.{entry_text, store_text};
+ghost use Rattle.program_store.specs.StoreText.{published_text, store_text};
 
 use crate::published::Published;
 use crate::view::View;
-use itoa::Buffer;
 use loda_syntax::print;
 use std::alloc::AllocError;
-use text_parts::name_text;
+use text_parts::{name_text, write_count};
 
 /// Adds the canonical text of a store: its entries in ascending order of their names, each as its header and its program's
 /// canonical text. After want of memory `out` has its old bytes and a first part of the text.
@@ -28,10 +27,10 @@ pub fn print_store<V: View>(view: &V, out: &mut Vec<u8>) -> Result<(), AllocErro
 }
 
 // Adds an entry: its header, LF, and its program's text.
-#[tactic(auto, unfolding(crate::specs::StoreText::entry_text))]
+#[tactic(auto, unfolding(crate::specs::StoreText::published_text))]
 fn print_entry(name: u32, published: &Published, out: &mut Vec<u8>) -> Result<(), AllocError>
-    ensures ok { OnOk result (out.new.items ≡ out.old.items ++ entry_text (name, published.now)) }
-    ensures err { OnErr result (AddsFront out.old.items out.new.items (entry_text (name, published.now))) }
+    ensures ok { OnOk result (out.new.items ≡ out.old.items ++ published_text (name, published.now)) }
+    ensures err { OnErr result (AddsFront out.old.items out.new.items (published_text (name, published.now))) }
 {
     print_header(name, published.checked, out)?;
     print(&published.program, out)
@@ -43,10 +42,9 @@ fn print_header(name: u32, count: u32, out: &mut Vec<u8>) -> Result<(), AllocErr
     ensures ok { OnOk result (out.new.items ≡ out.old.items ++ store_header name count ++ 10 ∷ []) }
     ensures err { OnErr result (AddsFront out.old.items out.new.items (store_header name count ++ 10 ∷ [])) }
 {
-    let mut digits = Buffer::new();
     out.extend_from_slice(b"= ")?;
     out.extend_from_slice(&name_text(name))?;
     out.extend_from_slice(b" ")?;
-    out.extend_from_slice(digits.format(count).as_bytes())?;
+    write_count(out, u64::from(count))?;
     out.extend_from_slice(b"\n")
 }

@@ -4,7 +4,7 @@ ghost use Rattle.std.specs.Prelude.{◌≡◌, ◌+◌, ◌<◌, ◌≤◌, ◌^
 ghost use Rattle.loda_io.specs.Shelf.{OnlyRead};
 ghost use Rattle.text_parts.specs.Names.{IsName};
 ghost use Rattle.program_store.specs.Files.{program_read, entry_fault, entry_read, proposal_read, store_read, candidates_read};
-ghost use Rattle.program_store.specs.Answers.{Answers, FileAnswers};
+ghost use Rattle.program_store.specs.Answers.{ReadsAs, FileAnswers};
 
 use crate::candidates::Candidates;
 use crate::errors::{StoreError, StoreKind};
@@ -29,7 +29,7 @@ const MOST_CANDIDATES: u64 = 1_000_000;
 /// The store of a store file's bytes. `Bad` comes exactly where the bytes are no store file, with the first fault: its kind
 /// and its line in the file.
 pub fn parse_store(alloc: Global, bytes: &[u8]) -> Result<Store, StoreError>
-    ensures { Answers result (store_read bytes.now) }
+    ensures { ReadsAs result (store_read bytes.now) }
 {
     let mut file = Cursor::new(STORE_SIGN, bytes);
     if let Some(line) = file.first_text() {
@@ -50,7 +50,7 @@ pub fn parse_store(alloc: Global, bytes: &[u8]) -> Result<Store, StoreError>
 /// The proposals of a candidates file's bytes. `Bad` comes exactly where the bytes are no candidates file, with the first
 /// fault: its kind and its line in the file.
 pub fn parse_candidates(alloc: Global, bytes: &[u8]) -> Result<Candidates, StoreError>
-    ensures { Answers result (candidates_read bytes.now) }
+    ensures { ReadsAs result (candidates_read bytes.now) }
 {
     let mut file = Cursor::new(CANDIDATES_SIGN, bytes);
     if let Some(line) = file.first_text() {
@@ -96,7 +96,7 @@ fn bad(line: u64, kind: StoreKind) -> StoreError
 #[tactic(auto, unfolding(crate::specs::Files::entry_read))]
 fn entry_of(alloc: Global, last: u32, section: Section<'_>) -> Result<(u32, Published), StoreError>
     requires { section.line + length section.text.now + 1 < 2 ^ 64 }
-    ensures value { Answers result (entry_read last (record { line = section.entry.line; header = section.entry.header.now; text = section.entry.text.now })) }
+    ensures value { ReadsAs result (entry_read last (record { line = section.entry.line; header = section.entry.header.now; text = section.entry.text.now })) }
     ensures named { IfOk result (λ entry. IsName entry.0) }
 {
     let Some((name, checked)) = store_header_of(section.header) else {
@@ -130,7 +130,7 @@ fn entry_fault(last: u32, name: u32, checked: u32) -> Option<StoreKind>
 fn proposal_of(alloc: Global, before: u64, section: Section<'_>) -> Result<Proposal, StoreError>
     requires before { before ≤ 1000000 }
     requires fits { section.line + length section.text.now + 1 < 2 ^ 64 }
-    ensures value { Answers result (proposal_read (before + 1) (record { line = section.entry.line; header = section.entry.header.now; text = section.entry.text.now })) }
+    ensures value { ReadsAs result (proposal_read (before + 1) (record { line = section.entry.line; header = section.entry.header.now; text = section.entry.text.now })) }
     ensures named { IfOk result (λ proposal. IsName proposal.name) }
     ensures few { IfOk result (λ proposal. before < 1000000) }
 {
@@ -148,7 +148,7 @@ fn proposal_of(alloc: Global, before: u64, section: Section<'_>) -> Result<Propo
 #[tactic(auto, unfolding(crate::specs::Files::program_read))]
 fn program_of(alloc: Global, section: Section<'_>) -> Result<Program, StoreError>
     requires { section.line + length section.text.now + 1 < 2 ^ 64 }
-    ensures { Answers result (program_read (record { line = section.entry.line; header = section.entry.header.now; text = section.entry.text.now })) }
+    ensures { ReadsAs result (program_read (record { line = section.entry.line; header = section.entry.header.now; text = section.entry.text.now })) }
 {
     match parse(alloc, section.text) {
         Ok(program) => Ok(program),

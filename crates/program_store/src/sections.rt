@@ -3,7 +3,7 @@
 ghost use Rattle.std.specs.Prelude.{◌≡◌, ℕ, ◌+◌, ◌<◌, ◌≤◌, ◌^◌, [], ◌∷◌, ◌++◌, length, find, IfSome, OnSome, IfNone};
 ghost use Rattle.std.specs.Option.{option_map};
 ghost use Rattle.program_store.specs.Files.{has_text};
-ghost use Rattle.program_store.specs.Sections.{Line, whole_lines, is_inner, cut_from, text_of};
+ghost use Rattle.program_store.specs.Sections.{Line, whole_lines, is_inner, cut_from, bytes_of_lines};
 
 use crate::lines::{has_text, line_length};
 
@@ -84,7 +84,7 @@ impl<'a> Cursor<'a> {
         requires { self.old.line + length self.old.rest.now < 2 ^ 64 }
         ensures sign { self.new.sign ≡ self.old.sign }
         ensures fits { self.new.line + length self.new.rest.now ≤ self.old.line + length self.old.rest.now }
-        ensures text { result.now ≡ text_of (cut_from self.old.sign self.old.line self.old.rest.now).before }
+        ensures text { result.now ≡ bytes_of_lines (cut_from self.old.sign self.old.line self.old.rest.now).before }
         ensures rest { self.old.rest.now ≡ result.now ++ self.new.rest.now }
         ensures cut { let cut = cut_from self.old.sign self.old.line self.old.rest.now in
             cut_from self.new.sign self.new.line self.new.rest.now ≡ record cut { before = [] } }

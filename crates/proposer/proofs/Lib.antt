@@ -1,6 +1,8 @@
--- Names: the names of a store, one after the other. Values: values and given terms, one after the other. Matched: the
--- proposals of matches, one after the other; each has a name. Chosen: a shortlist has one choice.
+-- The names of a store, one after the other.
 pub mod Names
+-- The values of a program, and the terms that it gives, one after the other.
 pub mod Values
+-- The proposals of matches, one after the other, and that a match has a name.
 pub mod Matched
+-- The first that is accepted, else the first, else none, is one.
 pub mod Chosen

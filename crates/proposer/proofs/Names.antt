@@ -15,7 +15,7 @@ use Rattle.mutator.specs.Mutating.{mutated}
 use Rattle.word_stream.specs.Words.{below, rest}
 use Rattle.rand_core.specs.Stream.{Stream}
 use Rattle.loda_syntax.specs.Programs.{Text}
-use Rattle.proposer.specs.Short.{names_of, program_at}
+use Rattle.proposer.specs.Short.{names_of, program_published}
 
 abbrev name_of : ℕ × Published → ℕ
 name_of entry = entry.0
@@ -79,9 +79,9 @@ are_names s last names so_far small = let few = so_far.few in record { few = ome
 -- one of the names was drawn, and this is its program
 pub changed_is : (s : Store) (names : List ℕ) (place n : ℕ) (words after : Stream) (e : Published) → published_at s (slice_index names place) ≡ Some e
     → place ≡ below n words → n ≡ length names → after ≡ rest words
-    → (mutated names e.program after).0 ≡ (mutated names (program_at s (slice_index names (below (length names) words))) (rest words)).0
+    → (mutated names e.program after).0 ≡ (mutated names (program_published s (slice_index names (below (length names) words))) (rest words)).0
 changed_is s names place n words after e found drawn count left =
     let at : place ≡ below (length names) words = drawn ∙ ap (λ (m : ℕ). below m words) count in
-    let program : e.program ≡ program_at s (slice_index names (below (length names) words)) =
-    sym (ap (λ (o : Option Published). option_map_or (λ (e : Published). e.program) o []) found) ∙ ap (λ (k : ℕ). program_at s (slice_index names k)) at in
+    let program : e.program ≡ program_published s (slice_index names (below (length names) words)) =
+    sym (ap (λ (o : Option Published). option_map_or (λ (e : Published). e.program) o []) found) ∙ ap (λ (k : ℕ). program_published s (slice_index names k)) at in
     ap (λ (w : Stream). (mutated names e.program w).0) left ∙ ap (λ (p : Text). (mutated names p (rest words)).0) program

@@ -11,6 +11,7 @@ use Rattle.seq_calls.specs.declared.outcomes.Outcome.{Outcome as Told}
 use Rattle.seq_calls.specs.declared.outcomes.Outcome.TheVariants as told_as
 use Rattle.seq_calls.specs.Frames.{told}
 use Rattle.seq_calls.specs.Values.{same_int, gives}
+use Rattle.seq_calls.proofs.Values.{told_value}
 use Rattle.proposer.specs.Short.{with_value, values_from, given_from}
 
 -- these values, and those after them
@@ -24,11 +25,6 @@ behind_one front v (Some vs) = ap (λ (xs : List ℤ). Some xs) (sym (append_ass
 pub behind_none : (vs : Option (List ℤ)) → behind [] vs ≡ vs
 behind_none None = refl
 behind_none (Some vs) = refl
-
-pub told_value : (o : Outcome) (v : ℤ) (n : ℕ) → told o ≡ told_as.Value v n → o ≡ value v n
-told_value (value w m) v n e = let z : told_as.Value w m ≡ told_as.Value v n = e in cc
-told_value (fault k m) v n e = absurd (let z : told_as.Fault k m ≡ told_as.Value v n = e in cc)
-told_value (out m) v n e = absurd (let z : told_as.OutOfSteps ≡ told_as.Value v n = e in cc)
 
 -- one more value
 pub values_next : (lib : Library) (limit : ℕ) (p : Text) (k many fewer : ℕ) (values : List ℤ) (x v : ℤ) (n : ℕ) (all : Option (List ℤ)) → x ≡ pos k

@@ -20,6 +20,7 @@ IsFirstAccepted s terms limit default [] o = o ≡ default
 IsFirstAccepted s terms limit default (p ∷ ps) o =
     (IsAccepted s terms limit p × (o ≡ Some p)) ⊎ ((IsAccepted s terms limit p → ⊥) × IsFirstAccepted s terms limit default ps o)
 
+-- the first of a list, or none
 abbrev pub first_of_list : List Proposal → Option Proposal
 first_of_list [] = None
 first_of_list (p ∷ ps) = Some p

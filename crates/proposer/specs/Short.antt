@@ -27,8 +27,8 @@ abbrev pub names_of : Store → List ℕ
 names_of s = map (λ (entry : ℕ × Published). entry.0) (entries s)
 
 -- the program of a published name
-abbrev pub program_at : Store → ℕ → Text
-program_at s q = option_map_or (λ (e : Published). e.program) (published_at s q) []
+abbrev pub program_published : Store → ℕ → Text
+program_published s q = option_map_or (λ (e : Published). e.program) (published_at s q) []
 
 -- The program that is made of these words, of which d was drawn before: where d is 1 and there is a name, the program of
 -- one of the names, changed; else a new one.
@@ -36,7 +36,7 @@ abbrev pub made_by : Store → List ℕ → ℕ → Stream → Text
 made_by s [] d words = (generated [] words).0
 made_by s (n ∷ ns) d words =
     let names = n ∷ ns in
-    if d == 1 then (mutated names (program_at s (slice_index names (below (length names) words))) (rest words)).0 else (generated names words).0
+    if d == 1 then (mutated names (program_published s (slice_index names (below (length names) words))) (rest words)).0 else (generated names words).0
 
 -- the program that a job begins with
 abbrev pub candidate : Store → Stream → Text
@@ -67,18 +67,18 @@ abbrev pub reduced : Library → ℕ → ℕ → Text → Text
 reduced lib limit k p = if nat_lt k 8 then p else minimum lib (first_arguments k) limit p
 
 -- the usable terms of a name
-abbrev pub usable : Table → ℕ → List ℤ
-usable table name = option_map_or (λ (row : List ℤ). row) (row_of table name) []
+abbrev pub usable_row : Table → ℕ → List ℤ
+usable_row table name = option_map_or (λ (row : List ℤ). row) (row_of table name) []
 
 -- the proposal that is made of a match, where there is a composed program
-abbrev pub proposal_of : Library → Table → ℕ → Text → Match → Option Proposal
-proposal_of lib table limit p m =
-    option_map (λ q. record { name = m.name; program = reduced lib limit (given_from lib limit q 0 (usable table m.name)) q }) (composed m.form p)
+abbrev pub proposal_of_match : Library → Table → ℕ → Text → Match → Option Proposal
+proposal_of_match lib table limit p m =
+    option_map (λ q. record { name = m.name; program = reduced lib limit (given_from lib limit q 0 (usable_row table m.name)) q }) (composed m.form p)
 
 -- the proposals that are made of the matches of a program's values, if it has them
 abbrev pub proposals_of : Library → Table → ℕ → Text → Option (List ℤ) → List Proposal
 proposals_of lib table limit p None = []
-proposals_of lib table limit p (Some values) = filter_map (proposal_of lib table limit p) (matches_of values table)
+proposals_of lib table limit p (Some values) = filter_map (proposal_of_match lib table limit p) (matches_of values table)
 
 -- those of a program
 abbrev pub short_of : Library → Table → ℕ → Text → List Proposal

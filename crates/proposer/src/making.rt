@@ -5,7 +5,7 @@ ghost use Rattle.word_stream.specs.Words.{below, rest};
 ghost use Rattle.generator.specs.Names.{AreNames};
 ghost use Rattle.mutator.specs.Mutating.{mutated};
 ghost use Rattle.program_store.specs.Store.{published_at};
-ghost use Rattle.proposer.specs.Short.{names_of, program_at, candidate};
+ghost use Rattle.proposer.specs.Short.{names_of, program_published, candidate};
 
 use generator::generate;
 use loda_syntax::Program;
@@ -41,7 +41,7 @@ fn changed<V: View, R: Rng>(
     requires are { AreNames names.now }
     requires published { All (λ name. IsSome (published_at (V.store view.now) name)) names.now }
     ensures { let name = slice_index names.now (below (length names.now) (R.stream draws.old)) in
-        IfOk result (λ made. made ≡ (mutated names.now (program_at (V.store view.now) name) (rest (R.stream draws.old))).0) }
+        IfOk result (λ made. made ≡ (mutated names.now (program_published (V.store view.now) name) (rest (R.stream draws.old))).0) }
 {
     let place = draws.below(names.len() as u32) as usize;
     let published = view.published(names[place]).unwrap();

@@ -4,7 +4,7 @@ ghost use Rattle.std.specs.Prelude.{◌≡◌, ◌≤◌, length, IfOk, IfSome};
 ghost use Rattle.oeis_terms.specs.Table.{IsBounded};
 ghost use Rattle.text_parts.specs.Names.{IsName};
 ghost use Rattle.program_store.specs.Store.{IsProposal};
-ghost use Rattle.proposer.specs.Short.{given_from, reduced, usable, proposal_of};
+ghost use Rattle.proposer.specs.Short.{given_from, reduced, usable_row, proposal_of_match};
 
 use crate::running::{first_arguments, given_terms};
 use checked_numbers::Num;
@@ -45,7 +45,7 @@ fn reduce<B: Library, L: Ledger>(
 // The usable terms of a name.
 fn usable(terms: &TermTable, name: u32) -> &[Num]
     requires { IsBounded terms.now }
-    ensures row { result.now ≡ usable terms.now name }
+    ensures row { result.now ≡ usable_row terms.now name }
     ensures bounded { length result.now ≤ 32768 }
 {
     match terms.row(name) {
@@ -66,7 +66,7 @@ pub fn proposal_of<B: Library, L: Ledger>(
 ) -> Result<Option<Proposal>, AllocError>
     requires bounded { IsBounded terms.now }
     requires named { IsName found.now.name }
-    ensures proposal { IfOk result (λ made. made ≡ proposal_of (B.programs lib.now) terms.now limit program.now found.now) }
+    ensures proposal { IfOk result (λ made. made ≡ proposal_of_match (B.programs lib.now) terms.now limit program.now found.now) }
     ensures well_formed { IfOk result (λ made. IfSome made IsProposal) }
     ensures counted { steps.old ≤ steps.new }
 {

@@ -1,24 +1,14 @@
 //! Values of a program at the first arguments.
 
-ghost use Rattle.std.specs.Prelude.{◌≡◌, ◌≤◌, ◌↔◌, ℕ, pos, length, IsTrue, IfOk};
+ghost use Rattle.std.specs.Prelude.{◌≡◌, ◌≤◌, length, IfOk};
 ghost use Rattle.proposer.specs.Short.{values_from, given_from, first_arguments};
 
-use checked_numbers::Num;
+use checked_numbers::{Num, number_of};
 use loda_syntax::Program;
 use program_store::Library;
 use seq_calls::{Outcome, Steps, evaluate_text};
 use std::alloc::{AllocError, Global};
 use std::sync::ledger::Ledger;
-
-// The number of an index.
-fn number_of(index: u32) -> Num
-    ensures { result ≡ pos index }
-{
-    match Num::new(i128::from(index)) {
-        Some(number) => number,
-        None => unreachable!(),
-    }
-}
 
 /// The values at 0 to 8, where each run has one within the limit of steps.
 pub fn nine_values<B: Library, L: Ledger>(
@@ -42,16 +32,6 @@ pub fn nine_values<B: Library, L: Ledger>(
     Ok(Some(values))
 }
 
-// Whether an outcome is a value, and this one.
-fn is_given(outcome: Outcome, term: Num) -> bool
-    ensures { IsTrue result ↔ ((used : ℕ) × (outcome ≡ Outcome.Value term used)) }
-{
-    match outcome {
-        Outcome::Value { value, .. } => value.get() == term.get(),
-        _ => false,
-    }
-}
-
 /// How many of the terms of a row the program gives, one after the other from 0 on, each within the limit of steps.
 pub fn given_terms<B: Library, L: Ledger>(
     alloc: Global,
@@ -68,7 +48,7 @@ pub fn given_terms<B: Library, L: Ledger>(
     let mut index = 0;
     for term in row {
         let outcome = evaluate_text(alloc, lib, program, number_of(index), limit, steps)?;
-        if !is_given(outcome, *term) {
+        if !outcome.is_value(*term) {
             return Ok(index);
         }
         index += 1;

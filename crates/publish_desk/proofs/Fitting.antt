@@ -8,7 +8,7 @@ use Rattle.program_store.specs.Store.{Store}
 use Rattle.evidence.specs.declared.finding.Finding.{Finding}
 use Rattle.evidence.specs.declared.finding.Finding.TheVariants.{Nothing, Judged}
 use Rattle.evidence.specs.Dossiers.{Dossier}
-use Rattle.evidence.specs.Findings.{accepted_count, IsTrue}
+use Rattle.evidence.specs.Findings.{accepted_count, IsTrueFinding}
 use Rattle.publish_desk.specs.declared.entry.Entry.{Entry}
 use Rattle.publish_desk.specs.History.{put_accepted, store_after, rise_of, rise, replay, version_of, store_at, proposal_of}
 use Rattle.publish_desk.specs.Desk.{Desk, origin_of, terms_of, history, store_then, decided, IsFitting, IsVerdict, IsKept}
@@ -23,13 +23,13 @@ present d v kept e = ap (store_at d.charter.opening (history d)) (e ∙ kept.ver
 
 -- what was found in the present store fits
 pub fits_now : (d : Desk) (f : Dossier) → IsKept d → f.job < d.charter.jobs → f.base ≡ d.version → f.snapshot.version ≡ d.version → f.snapshot.store ≡ d.store
-    → IsTrue d.store (terms_of d.charter) d.charter.limit f.finding → origin_of d.charter f.job d.store (proposal_of f.finding) → IsFitting d f
+    → IsTrueFinding d.store (terms_of d.charter) d.charter.limit f.finding → origin_of d.charter f.job d.store (proposal_of f.finding) → IsFitting d f
 fits_now d f kept listed base seen store found proposed = record {
   listed = listed;
   base = omega (arith, base, seen);
   seen = omega (arith, seen);
   store = store ∙ sym (present d f.snapshot.version kept seen);
-  finding = subst (λ (s : Store). IsTrue s (terms_of d.charter) d.charter.limit f.finding) (sym store) found;
+  finding = subst (λ (s : Store). IsTrueFinding s (terms_of d.charter) d.charter.limit f.finding) (sym store) found;
   proposed = subst (λ (s : Store). origin_of d.charter f.job s (proposal_of f.finding)) (sym (present d f.base kept base)) proposed;
 }
 

@@ -11,11 +11,11 @@ use Rattle.judge.specs.Judged.{IsJudged}
 use Rattle.judge.proofs.OneAnswer.{one_answer}
 use Rattle.evidence.specs.declared.finding.Finding.{Finding}
 use Rattle.evidence.specs.declared.finding.Finding.TheVariants.{Nothing, Judged}
-use Rattle.evidence.specs.Findings.{IsTrue}
+use Rattle.evidence.specs.Findings.{IsTrueFinding}
 use Rattle.publish_desk.specs.declared.charter.Source.{Source}
 use Rattle.publish_desk.specs.declared.charter.Source.TheVariants.{Listed}
 use Rattle.publish_desk.specs.declared.entry.Entry.{Entry}
-use Rattle.publish_desk.specs.History.{Origin, IsSingle, replay, version_of, store_at, proposal_of, IsLegal, IsInOrder}
+use Rattle.publish_desk.specs.History.{OriginRule, IsSingle, replay, version_of, store_at, proposal_of, IsLegal, IsInOrder}
 use Rattle.publish_desk.specs.Desk.{IsFrom}
 use Rattle.publish_desk.specs.OneJournal.{IsOneJournal}
 
@@ -26,7 +26,7 @@ one_proposal terms limit (Listed candidates) job s a b h k = h ∙ sym k
 
 -- ---- and one finding
 
-one_finding : (s : Store) (terms : Terms) (limit : ℕ) (f g : Finding) → proposal_of f ≡ proposal_of g → IsTrue s terms limit f → IsTrue s terms limit g → f ≡ g
+one_finding : (s : Store) (terms : Terms) (limit : ℕ) (f g : Finding) → proposal_of f ≡ proposal_of g → IsTrueFinding s terms limit f → IsTrueFinding s terms limit g → f ≡ g
 one_finding s terms limit Nothing Nothing e h k = refl
 one_finding s terms limit Nothing (Judged q b) e h k = absurd (let z : None ≡ Some q = e in cc)
 one_finding s terms limit (Judged p a) Nothing e h k = absurd (let z : Some p ≡ None = e in cc)
@@ -49,7 +49,7 @@ one opening terms limit source jobs (a ∷ es) [] size h k i j = absurd (omega (
 one opening terms limit source jobs (a ∷ es) (b ∷ bs) size h k i j = joined (one opening terms limit source jobs es bs (omega (arith, size)) h.0 k.0 i.0 j.0)
   where
     joined : es ≡ bs → a ∷ es ≡ b ∷ bs
-    joined rest = ap (λ (l : List Entry). a ∷ l) rest ∙ ap (λ (e : Entry). e ∷ bs) (one_entry a b job base (one_finding (replay opening bs) terms limit a.finding b.finding proposal (subst (λ (l : List Entry). IsTrue (replay opening l) terms limit a.finding) rest h.1.finding) k.1.finding))
+    joined rest = ap (λ (l : List Entry). a ∷ l) rest ∙ ap (λ (e : Entry). e ∷ bs) (one_entry a b job base (one_finding (replay opening bs) terms limit a.finding b.finding proposal (subst (λ (l : List Entry). IsTrueFinding (replay opening l) terms limit a.finding) rest h.1.finding) k.1.finding))
       where
         job : a.job ≡ b.job
         job = i.1 ∙ ap length rest ∙ sym j.1

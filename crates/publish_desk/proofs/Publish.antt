@@ -18,7 +18,7 @@ use Rattle.judge.proofs.Rows.{eight_terms}
 use Rattle.judge.proofs.Fresh.{within_ample}
 use Rattle.evidence.specs.declared.finding.Finding.{Finding}
 use Rattle.evidence.specs.declared.finding.Finding.TheVariants.{Nothing, Judged}
-use Rattle.evidence.specs.Findings.{accepted_count, IsTrue}
+use Rattle.evidence.specs.Findings.{accepted_count, IsTrueFinding}
 use Rattle.evidence.specs.Dossiers.{Dossier}
 use Rattle.publish_desk.specs.declared.entry.Entry.{Entry}
 use Rattle.publish_desk.specs.declared.charter.Charter.{Charter}
@@ -74,7 +74,7 @@ judged_next terms limit s p (Costlier at was now) fits eight sound h = (sound, t
 judged_next terms limit s p NoGain fits eight sound h = (sound, tt)
 
 finding_next : (terms : Terms) (limit : ℕ) (s : Store) (f : Finding) → limit ≤ ample → HasEight terms → Sound s terms limit
-    → IsTrue s terms limit f → Sound (store_after f s) terms limit × EntryLosesNothing limit s f
+    → IsTrueFinding s terms limit f → Sound (store_after f s) terms limit × EntryLosesNothing limit s f
 unfolding Next
 finding_next terms limit s Nothing fits eight sound h = (sound, tt)
 finding_next terms limit s (Judged p a) fits eight sound h = judged_next terms limit s p a fits eight sound h
@@ -96,14 +96,14 @@ kept_next d f kept chartered fitting missing seen =
     let h = history d in
     let pushed : reverse (d.journal ++ e ∷ []) ≡ e ∷ h = reverse_push d.journal e in
     let now : f.snapshot.store ≡ d.store = fitting.store ∙ ap (store_at c.opening h) (seen ∙ kept.version) ∙ store_now c.opening h ∙ sym kept.store in
-    let true_here : IsTrue d.store (terms_of c) c.limit f.finding = subst (λ (s : Store). IsTrue s (terms_of c) c.limit f.finding) now fitting.finding in
+    let true_here : IsTrueFinding d.store (terms_of c) c.limit f.finding = subst (λ (s : Store). IsTrueFinding s (terms_of c) c.limit f.finding) now fitting.finding in
     let next = finding_next (terms_of c) c.limit d.store f.finding (within_ample c.limit (let l = chartered.limit in omega (arith, l))) (eight_terms c.terms chartered.table) kept.sound true_here in
     let legal : IsLegalAfter c.opening (terms_of c) c.limit (origin_of c) c.jobs h e = record {
       listed = fitting.listed;
       once = all_reverse (λ (g : Entry). g.job ≢ f.job) d.journal missing;
       base = (let b = fitting.base in let s = seen in let v = kept.version in omega (arith, b, s, v));
       proposed = fitting.proposed;
-      finding = subst (λ (s : Store). IsTrue s (terms_of c) c.limit f.finding) kept.store true_here;
+      finding = subst (λ (s : Store). IsTrueFinding s (terms_of c) c.limit f.finding) kept.store true_here;
     } in
     record {
       store = ap (store_after f.finding) kept.store ∙ sym (ap (replay c.opening) pushed);

@@ -7,12 +7,12 @@ use Rattle.oeis_terms.specs.Table.{row_of, IsBounded, IsTable}
 use Rattle.judge.specs.Passed.{Terms}
 use Rattle.judge.specs.Sound.{Sound}
 use Rattle.evidence.specs.Dossiers.{Dossier}
-use Rattle.evidence.specs.Findings.{IsTrue}
+use Rattle.evidence.specs.Findings.{IsTrueFinding}
 use Rattle.publish_desk.specs.declared.entry.Entry.{Entry}
 use Rattle.publish_desk.specs.declared.charter.Charter.{Charter}
 use Rattle.publish_desk.specs.declared.charter.Source.{Source}
 use Rattle.publish_desk.specs.declared.charter.Source.TheVariants.{Listed}
-use Rattle.publish_desk.specs.History.{Origin, replay, version_of, store_at, store_after, rise, proposal_of, IsLegal, NoLoss, IsMissing, IsDoneAt, Made}
+use Rattle.publish_desk.specs.History.{OriginRule, replay, version_of, store_at, store_after, rise, proposal_of, IsLegal, NoLoss, IsMissing, IsDoneAt, MakesVersion}
 use Rattle.publish_desk.specs.declared.verdict.Verdict.{Verdict}
 use Rattle.publish_desk.specs.declared.verdict.Verdict.TheVariants.{Decided, Again, AlreadyDone}
 
@@ -29,7 +29,8 @@ terms_of c = row_of c.terms
 abbrev pub IsFrom : Terms → ℕ → Source → ℕ → Store → Option Proposal → Type 0
 IsFrom terms limit (Listed candidates) job s o = o ≡ slice_get candidates job
 
-abbrev pub origin_of : Charter → Origin
+-- what the charter proposes for each job
+abbrev pub origin_of : Charter → OriginRule
 origin_of c = IsFrom (terms_of c) c.limit c.source
 
 -- what never changes, the entries in the order in which they came, how many were accepted, and the present store
@@ -74,7 +75,7 @@ pub record IsFitting (desk : Desk) (d : Dossier) : Type 0 where
   pub base : d.base ≤ d.snapshot.version
   pub seen : d.snapshot.version ≤ desk.version
   pub store : d.snapshot.store ≡ store_then desk d.snapshot.version
-  pub finding : IsTrue d.snapshot.store (terms_of desk.charter) desk.charter.limit d.finding
+  pub finding : IsTrueFinding d.snapshot.store (terms_of desk.charter) desk.charter.limit d.finding
   pub proposed : origin_of desk.charter d.job (store_then desk d.base) (proposal_of d.finding)
 
 -- the desk with the dossier's entry
@@ -86,20 +87,23 @@ decided desk d = record {
   store = store_after d.finding desk.store;
 }
 
-pub record IsDecided (old new : Desk) (d : Dossier) (at : ℕ) : Type 0 where
+-- the dossier was decided: its entry is the last, at this place
+pub record IsDecidedAt (old new : Desk) (d : Dossier) (at : ℕ) : Type 0 where
   pub missing : IsMissing old.journal d.job
   pub seen : d.snapshot.version ≡ old.version
   pub place : at ≡ length old.journal
   pub next : new ≡ decided old d
 
+-- the store is newer than the one that the dossier saw: nothing changed, and this is the first entry that made it newer
 pub record IsAgain (old new : Desk) (d : Dossier) (version first name : ℕ) (back : Dossier) : Type 0 where
   pub missing : IsMissing old.journal d.job
   pub newer : d.snapshot.version < old.version
   pub present : version ≡ old.version
-  pub made : Made old.journal d.snapshot.version first name
+  pub made : MakesVersion old.journal d.snapshot.version first name
   pub same : back ≡ d
   pub unchanged : new ≡ old
 
+-- the job has an entry already, at this place: nothing changed
 pub record IsAlreadyDone (old new : Desk) (d : Dossier) (at : ℕ) (back : Dossier) : Type 0 where
   pub done : IsDoneAt old.journal d.job at
   pub same : back ≡ d
@@ -107,6 +111,6 @@ pub record IsAlreadyDone (old new : Desk) (d : Dossier) (at : ℕ) (back : Dossi
 
 -- what publishing a dossier answers
 abbrev pub IsVerdict : Desk → Desk → Dossier → Verdict → Type 0
-IsVerdict old new d (Decided at) = IsDecided old new d at
+IsVerdict old new d (Decided at) = IsDecidedAt old new d at
 IsVerdict old new d (Again version first name back) = IsAgain old new d version first name back
 IsVerdict old new d (AlreadyDone at back) = IsAlreadyDone old new d at back

@@ -2,6 +2,8 @@
 use Rattle.std.specs.Prelude.{ℕ, List, [], ◌∷◌, ◌++◌, length, codes, ℤ}
 use Rattle.std.specs.Fmt.{decimal, signed_decimal}
 use Rattle.loda_syntax.specs.Canon.{canon}
+use Rattle.loda_semantics.specs.declared.kinds.FaultKind.TheVariants as kind
+use Rattle.loda_semantics.specs.Faults.{fault_text}
 use Rattle.program_store.specs.Store.{Store}
 use Rattle.text_parts.specs.Names.{name_text}
 use Rattle.program_store.specs.StoreText.{store_text}
@@ -16,17 +18,19 @@ use Rattle.publish_desk.specs.declared.entry.Entry.{Entry}
 -- a value, or the word of what came in its place
 abbrev pub got_text : Got → List ℕ
 got_text (got.Value v) = signed_decimal v
-got_text got.Overflow = codes "overflow"
-got_text got.DivideByZero = codes "divide-by-zero"
-got_text got.BadCell = codes "bad-cell"
-got_text got.Missing = codes "missing"
+got_text got.Overflow = fault_text kind.Overflow
+got_text got.DivideByZero = fault_text kind.DivideByZero
+got_text got.BadCell = fault_text kind.BadCell
+got_text got.Missing = fault_text kind.Missing
 got_text got.OutOfSteps = codes "out-of-steps"
 
+-- the demanded argument that is no longer answered, the least caller, and the two outcomes
 abbrev pub broken_text : ℤ → ℕ → ℕ → ℤ → Got → List ℕ
 broken_text at caller index was now =
     codes "broken " ++ signed_decimal at ++ (codes " caller " ++ name_text caller) ++ (codes " index " ++ decimal index)
     ++ (codes " was " ++ signed_decimal was) ++ (codes " now " ++ got_text now)
 
+-- the argument that takes more steps, and the two numbers of steps
 abbrev pub costlier_text : ℤ → ℕ → ℕ → List ℕ
 costlier_text at was now = codes "costlier " ++ signed_decimal at ++ (codes " was " ++ decimal was) ++ (codes " now " ++ decimal now)
 
@@ -49,6 +53,7 @@ finding_text (Judged proposal answer) = name_text proposal.name ++ codes " " ++ 
 unfoldable pub entry_text : Entry → List ℕ
 entry_text e = codes "job " ++ decimal e.job ++ (codes " base " ++ decimal e.base) ++ codes " " ++ finding_text e.finding
 
+-- entries, one after the other
 unfoldable pub entries_text : List Entry → List ℕ
 entries_text [] = []
 entries_text (e ∷ es) = entry_text e ++ entries_text es

@@ -5,7 +5,7 @@ ghost use Rattle.std.specs.Arc.{arc_value};
 ghost use Rattle.oeis_terms.specs.Table.{row_of, IsBounded};
 ghost use Rattle.judge.specs.Sound.{IsUnsound};
 ghost use Rattle.evidence.specs.Findings.{next_store};
-ghost use Rattle.publish_desk.specs.History.{IsMissing, IsDoneAt, Made, Publishes};
+ghost use Rattle.publish_desk.specs.History.{IsMissing, IsDoneAt, MakesVersion, Publishes};
 ghost use Rattle.publish_desk.specs.Source.{source_of};
 ghost use Rattle.publish_desk.specs.Desk.{HasJobs, decided, IsKept, IsChartered, IsFitting, IsVerdict};
 

@@ -1,29 +1,28 @@
 //! The report of a journal.
 
 ghost use Rattle.std.specs.Prelude.{◌≡◌, ◌++◌, OnOk, OnErr};
-ghost use Rattle.std.specs.Fmt.{decimal, signed_decimal};
+ghost use Rattle.std.specs.Fmt.{signed_decimal};
 ghost use Rattle.loda_syntax.specs.Answers.{AddsFront};
+ghost use Rattle.loda_semantics.specs.Faults.{fault_text};
 ghost use Rattle.text_parts.specs.Names.{name_text};
-ghost use Rattle.loda_syntax.specs.Answers.{AddsFront};
 ghost use Rattle.publish_desk.specs.Report.{got_text, broken_text, costlier_text, answer_text, finding_text, entry_text, entries_text, end_text, report};
 
 use crate::desk::Desk;
 use crate::entry::Entry;
 use checked_numbers::{Num, write_num};
 use evidence::Finding;
-use itoa::Buffer;
 use judge::{Answer, Got};
+use loda_semantics::FaultKind;
 use loda_syntax::print;
 use program_store::print_store;
 use std::alloc::AllocError;
-use text_parts::name_text;
+use text_parts::{name_text, write_counted};
 
-// Adds a count's decimal.
-fn write_count(out: &mut Vec<u8>, count: u64) -> Result<(), AllocError>
-    ensures { OnOk result (out.new.items ≡ out.old.items ++ decimal count) }
+// Adds the word of a fault.
+fn write_word(out: &mut Vec<u8>, kind: FaultKind) -> Result<(), AllocError>
+    ensures { OnOk result (out.new.items ≡ out.old.items ++ fault_text kind) }
 {
-    let mut buffer = Buffer::new();
-    out.extend_from_slice(buffer.format(count).as_bytes())
+    out.extend_from_slice(kind.word().as_bytes())
 }
 
 // Adds a value, or the word of what came in its place.
@@ -32,20 +31,12 @@ fn write_got(out: &mut Vec<u8>, got: Got) -> Result<(), AllocError>
 {
     match got {
         Got::Value(value) => write_num(out, value),
-        Got::Overflow => out.extend_from_slice(b"overflow"),
-        Got::DivideByZero => out.extend_from_slice(b"divide-by-zero"),
-        Got::BadCell => out.extend_from_slice(b"bad-cell"),
-        Got::Missing => out.extend_from_slice(b"missing"),
+        Got::Overflow => write_word(out, FaultKind::Overflow),
+        Got::DivideByZero => write_word(out, FaultKind::DivideByZero),
+        Got::BadCell => write_word(out, FaultKind::BadCell),
+        Got::Missing => write_word(out, FaultKind::Missing),
         Got::OutOfSteps => out.extend_from_slice(b"out-of-steps"),
     }
-}
-
-// Adds a word and a count, as `accepted 10`.
-fn write_counted(out: &mut Vec<u8>, word: &[u8], count: u64) -> Result<(), AllocError>
-    ensures { OnOk result (out.new.items ≡ out.old.items ++ (word.now ++ decimal count)) }
-{
-    out.extend_from_slice(word)?;
-    write_count(out, count)
 }
 
 // Adds a word and a number, as `costlier -1`.

@@ -11,7 +11,7 @@ use Rattle.loda_semantics.proofs.Simulation.{left_of, left-charge, left-turns, l
 use Rattle.loda_semantics.proofs.Same.{same-then, same-charge, same-exec}
 use Rattle.lex_loops.specs.declared.stop.Stop.TheVariants as stop
 use Rattle.lex_loops.specs.Memories.{memory_of}
-use Rattle.lex_loops.specs.State.{OpenLoop, State, finish, loops_of, run_on, run_answered, answered_by, Advances}
+use Rattle.lex_loops.specs.State.{OpenLoop, MachineState, finish, loops_of, run_on, run_answered, answered_by, Advances}
 
 left_after : (c : Calls) (r : Ending) → left_of (after_calls c r) ≡ left_of r
 left_after c (done m n d) = refl
@@ -74,7 +74,7 @@ module _ (callee1 callee2 : Callee) (most : ℕ) (agree : (q : ℕ) (x : ℤ) (n
       (same-then most turned rest1 rest2 within (λ m a le'. same-exec callee1 callee2 most agree (first_tree ts) m a le')
       ∙ ap (λ e. and_then e rest2) (same-then most r (turn callee1 list o) (turn callee2 list o) le (same_turn list o)))
 
-  same_run : (st : State) (n : ℕ) → n ≤ most → run_on callee1 st n ≡ run_on callee2 st n
+  same_run : (st : MachineState) (n : ℕ) → n ≤ most → run_on callee1 st n ≡ run_on callee2 st n
   same_run st n le =
       let list = instrs st.program in
       let ts = trees (drop st.at list) in
@@ -90,7 +90,7 @@ answer false = (fault Missing 0, none)
 less : (k n : ℕ) → k < n → nat_lt k n ≡ true
 less k n lt = grind arith
 
-pub call_costs : (st new : State) (n left q : ℕ) (x : ℤ) → Advances st n (stop.Call q x) left new → left < n
+pub call_costs : (st new : MachineState) (n left q : ℕ) (x : ℤ) → Advances st n (stop.Call q x) left new → left < n
 call_costs st new n left q x adv = by_test (nat_lt left n) refl
   where
     by_test : (t : Bool) → nat_lt left n ≡ t → left < n

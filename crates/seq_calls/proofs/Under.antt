@@ -11,7 +11,7 @@ use Rattle.loda_semantics.specs.Exec.{Outcome, value, fault, out, Calls, none, c
 use Rattle.loda_semantics.proofs.Laws.{run_text-is}
 use Rattle.lex_loops.specs.declared.stop.Stop.TheVariants as stop
 use Rattle.lex_loops.specs.declared.stop.Phase.TheVariants.{Ready, Waiting as IsWaiting}
-use Rattle.lex_loops.specs.State.{State, run_on, Begins, Advances, TakesAnswer}
+use Rattle.lex_loops.specs.State.{MachineState, run_on, Begins, Advances, TakesAnswer}
 use Rattle.seq_calls.specs.declared.unfinished.Frame.{Frame}
 use Rattle.seq_calls.specs.declared.unfinished.Caller.{Caller}
 use Rattle.seq_calls.specs.declared.outcomes.NodeRun.{NodeRun}
@@ -88,11 +88,11 @@ under_limit lib kept limit ran prog frame callers nodes left h = left_within kep
 -- ---- a call
 
 -- a frame that waits for the value of r at y
-abbrev pub caller_of : Bor Text → Box Frame → Frame → State → ℕ → ℤ → Caller
+abbrev pub caller_of : Bor Text → Box Frame → Frame → MachineState → ℕ → ℤ → Caller
 caller_of program b frame new r y = record { program = program; frame = record b { value = record frame { machine = new } }; call = record { name = r; arg = y } }
 
 -- a call of a name that is there
-pub called : (lib : Library) (kept : Bool) (limit : ℕ) (ran : Outcome × Calls) (program : Bor Text) (b : Box Frame) (frame callee : Frame) (callers : List Caller) (nodes : List NodeRun) (n left r : ℕ) (y : ℤ) (p : Text) (new : State)
+pub called : (lib : Library) (kept : Bool) (limit : ℕ) (ran : Outcome × Calls) (program : Bor Text) (b : Box Frame) (frame callee : Frame) (callers : List Caller) (nodes : List NodeRun) (n left r : ℕ) (y : ℤ) (p : Text) (new : MachineState)
     → IsUnder lib kept limit ran program.now frame callers nodes n → Advances frame.machine n (stop.Call r y) left new → left ≤ n
     → new.program ≡ frame.machine.program → new.phase ≡ IsWaiting
     → lib r ≡ Some p → Begins callee.machine p y → callee.machine.program ≡ p → callee.machine.phase ≡ Ready
@@ -135,7 +135,7 @@ node_is p before v used node h =
     ∙ ap (λ (o : ℕ). N p v o node.calls) h.own ∙ ap (N p v (used - steps_below before)) h.calls
 
 -- the innermost run ends with a value, and its caller goes on
-pub answered : (lib : Library) (kept : Bool) (limit : ℕ) (ran : Outcome × Calls) (prog : Text) (frame next : Frame) (caller : Caller) (callers : List Caller) (nodes : List NodeRun) (node : NodeRun) (n left used : ℕ) (v : ℤ) (new : State)
+pub answered : (lib : Library) (kept : Bool) (limit : ℕ) (ran : Outcome × Calls) (prog : Text) (frame next : Frame) (caller : Caller) (callers : List Caller) (nodes : List NodeRun) (node : NodeRun) (n left used : ℕ) (v : ℤ) (new : MachineState)
     → (u : IsUnder lib kept limit ran prog frame (caller ∷ callers) nodes n) → Advances frame.machine n (stop.Done v) left new → used + left ≡ frame.given
     → (held : Frame) → held ≡ caller.frame.value
     → TakesAnswer held.machine v next.machine → next.machine.phase ≡ Ready → next.machine.program ≡ held.machine.program
@@ -207,14 +207,14 @@ ended_failed lib kept limit ran name named x prog frame callers nodes n left k c
     told_run ran name x limit left answer made (fault k (limit - left)) all.0 whole outcome
     (λ q e. are ∙ u.nodes_are (named q e) ∙ ap (λ (ns : List NodeRun). nodes_before ws ++ ns) (sym same_nodes) ∙ sym all.2 ∙ sym (append-nil _)) (omega (arith, bound, le))
 
-pub faulted : (lib : Library) (kept : Bool) (limit : ℕ) (ran : Outcome × Calls) (name : Option ℕ) (named : (q : ℕ) → name ≡ Some q → IsTrue kept) (x : ℤ) (prog : Text) (frame : Frame) (callers : List Caller) (nodes : List NodeRun) (n left : ℕ) (k : FaultKind) (new : State) (answer : Told) (made : List NodeRun)
+pub faulted : (lib : Library) (kept : Bool) (limit : ℕ) (ran : Outcome × Calls) (name : Option ℕ) (named : (q : ℕ) → name ≡ Some q → IsTrue kept) (x : ℤ) (prog : Text) (frame : Frame) (callers : List Caller) (nodes : List NodeRun) (n left : ℕ) (k : FaultKind) (new : MachineState) (answer : Told) (made : List NodeRun)
     → IsUnder lib kept limit ran prog frame callers nodes n → left ≤ n → Advances frame.machine n (stop.Fault k) left new
     → answer ≡ told_as.Fault k (limit - left) → made ≡ nodes → IsRun ran name x limit answer made left
 faulted lib kept limit ran name named x prog frame callers nodes n left k new answer made u le adv outcome are =
     ended_failed lib kept limit ran name named x prog frame callers nodes n left k (join u.before none) answer made u le
     (ap (λ (e : Ending). unwind lib (waiting frame.given callers u.befores) (after_calls u.before e)) (adv (run_name lib))) (ap nodes_in (join-none u.before)) outcome are
 
-pub missing : (lib : Library) (kept : Bool) (limit : ℕ) (ran : Outcome × Calls) (name : Option ℕ) (named : (q : ℕ) → name ≡ Some q → IsTrue kept) (x : ℤ) (prog : Text) (frame : Frame) (callers : List Caller) (nodes : List NodeRun) (n left r : ℕ) (y : ℤ) (new : State) (answer : Told) (made : List NodeRun)
+pub missing : (lib : Library) (kept : Bool) (limit : ℕ) (ran : Outcome × Calls) (name : Option ℕ) (named : (q : ℕ) → name ≡ Some q → IsTrue kept) (x : ℤ) (prog : Text) (frame : Frame) (callers : List Caller) (nodes : List NodeRun) (n left r : ℕ) (y : ℤ) (new : MachineState) (answer : Told) (made : List NodeRun)
     → IsUnder lib kept limit ran prog frame callers nodes n → left ≤ n → Advances frame.machine n (stop.Call r y) left new → lib r ≡ None
     → answer ≡ told_as.Fault Missing (limit - left) → made ≡ nodes → IsRun ran name x limit answer made left
 missing lib kept limit ran name named x prog frame callers nodes n left r y new answer made u le adv gone outcome are =
@@ -223,7 +223,7 @@ missing lib kept limit ran name named x prog frame callers nodes n left r y new 
     (missing_call lib (waiting frame.given callers u.befores) u.before frame.machine new n left r y adv gone)
     (nodes_join u.before gone_call ∙ append-nil (nodes_in u.before)) outcome are
 
-pub ran_out : (lib : Library) (kept : Bool) (limit : ℕ) (ran : Outcome × Calls) (name : Option ℕ) (named : (q : ℕ) → name ≡ Some q → IsTrue kept) (x : ℤ) (prog : Text) (frame : Frame) (callers : List Caller) (nodes : List NodeRun) (n left : ℕ) (new : State) (answer : Told) (made : List NodeRun)
+pub ran_out : (lib : Library) (kept : Bool) (limit : ℕ) (ran : Outcome × Calls) (name : Option ℕ) (named : (q : ℕ) → name ≡ Some q → IsTrue kept) (x : ℤ) (prog : Text) (frame : Frame) (callers : List Caller) (nodes : List NodeRun) (n left : ℕ) (new : MachineState) (answer : Told) (made : List NodeRun)
     → IsUnder lib kept limit ran prog frame callers nodes n → left ≤ n → Advances frame.machine n stop.Spent left new
     → answer ≡ told_as.OutOfSteps → made ≡ nodes → IsRun ran name x limit answer made left
 ran_out lib kept limit ran name named x prog frame callers nodes n left new answer made u le adv outcome are =
@@ -244,7 +244,7 @@ named_run-is q x v used below calls before same_below same_calls =
     ap (λ (b : ℕ). N (used - b) calls) same_below ∙ ap (N (used - steps_below before)) same_calls
 
 -- the outermost run ends with a value, and what it adds to the nodes is its own
-pub finished : (lib : Library) (kept : Bool) (limit : ℕ) (ran : Outcome × Calls) (name : Option ℕ) (named : (q : ℕ) → name ≡ Some q → IsTrue kept) (x : ℤ) (prog : Text) (frame : Frame) (nodes : List NodeRun) (n left used : ℕ) (v : ℤ) (new : State) (answer : Told) (made : List NodeRun)
+pub finished : (lib : Library) (kept : Bool) (limit : ℕ) (ran : Outcome × Calls) (name : Option ℕ) (named : (q : ℕ) → name ≡ Some q → IsTrue kept) (x : ℤ) (prog : Text) (frame : Frame) (nodes : List NodeRun) (n left used : ℕ) (v : ℤ) (new : MachineState) (answer : Told) (made : List NodeRun)
     → IsUnder lib kept limit ran prog frame [] nodes n → Advances frame.machine n (stop.Done v) left new → used + left ≡ frame.given
     → answer ≡ told_as.Value v used → made ≡ nodes ++ named_run name x v (used - frame.below) frame.calls.items → IsRun ran name x limit answer made left
 finished lib kept limit ran name named x prog frame nodes n left used v new answer made u adv sum outcome are = by_befores u.befores u.wait u.nodes_are u.run

@@ -10,14 +10,14 @@ use Rattle.loda_semantics.specs.Memory.{memory_with}
 use Rattle.loda_semantics.specs.Exec.{value, fault, out, Calls, none, call, join, Ending, failed, spent, after_calls, Library, run_name, run_text, run_deep, exec, outcome_of}
 use Rattle.loda_semantics.proofs.Laws.{run_text-is}
 use Rattle.lex_loops.specs.declared.stop.Stop.TheVariants as stop
-use Rattle.lex_loops.specs.State.{State, run_on, run_answered, answered_by, Begins, Advances, TakesAnswer}
+use Rattle.lex_loops.specs.State.{MachineState, run_on, run_answered, answered_by, Begins, Advances, TakesAnswer}
 use Rattle.seq_calls.specs.declared.outcomes.NodeRun.{NodeRun}
 use Rattle.seq_calls.specs.Frames.{nodes_in}
 use Rattle.seq_calls.proofs.Joined.{after-after, nodes_join}
 
 -- a caller that waits: its state, its calls before this one, the call, and the steps that the callee was given
 pub record Waiting : Type 0 where
-  pub state : State
+  pub state : MachineState
   pub before : Calls
   pub name : ℕ
   pub arg : ℤ
@@ -47,7 +47,7 @@ pub name-is : (lib : Library) (q : ℕ) (x : ℤ) (n : ℕ) (p : Text) → lib q
 name-is lib q x n p here = named lib q x n (lib q) p here ∙ run_text-is lib p x n
 
 -- a call of a name that is there: its machine is put before the callers
-pub push_call : (lib : Library) (fs : List Waiting) (before : Calls) (st new callee : State) (n left q : ℕ) (x : ℤ) (p : Text)
+pub push_call : (lib : Library) (fs : List Waiting) (before : Calls) (st new callee : MachineState) (n left q : ℕ) (x : ℤ) (p : Text)
     → Advances st n (stop.Call q x) left new → lib q ≡ Some p → Begins callee p x
     → unwind lib fs (after_calls before (run_on (run_name lib) st n))
     ≡ unwind lib (record { state = new; before = before; name = q; arg = x; given = left } ∷ fs) (run_on (run_name lib) callee left)
@@ -57,7 +57,7 @@ push_call lib fs before st new callee n left q x p adv here start =
     ∙ ap (answered_by q x left (run_answered (run_name lib) new)) (name-is lib q x left p here ∙ ap (outcome_of left) (sym (start (run_name lib) left))))
 
 -- a call of a name that isn't there
-pub missing_call : (lib : Library) (fs : List Waiting) (before : Calls) (st new : State) (n left q : ℕ) (x : ℤ)
+pub missing_call : (lib : Library) (fs : List Waiting) (before : Calls) (st new : MachineState) (n left q : ℕ) (x : ℤ)
     → Advances st n (stop.Call q x) left new → lib q ≡ None
     → unwind lib fs (after_calls before (run_on (run_name lib) st n)) ≡ unwind lib fs (failed Missing left (join before (call q x (fault Missing 0) none none)))
 missing_call lib fs before st new n left q x adv gone =
@@ -67,7 +67,7 @@ missing_call lib fs before st new n left q x adv gone =
     ∙ ap (λ z. failed Missing z (call q x (fault Missing 0) none none)) (omega arith))
 
 -- a callee that is done: its caller has the answer, and goes on with what is left
-pub pop_value : (lib : Library) (f : Waiting) (fs : List Waiting) (before : Calls) (st answered new : State) (n left : ℕ) (v : ℤ)
+pub pop_value : (lib : Library) (f : Waiting) (fs : List Waiting) (before : Calls) (st answered new : MachineState) (n left : ℕ) (v : ℤ)
     → Advances st n (stop.Done v) left new → (used : ℕ) → used + left ≡ f.given → TakesAnswer f.state v answered
     → unwind lib (f ∷ fs) (after_calls before (run_on (run_name lib) st n))
     ≡ unwind lib fs (after_calls (join f.before (call f.name f.arg (value v used) (join before none) none)) (run_on (run_name lib) answered left))

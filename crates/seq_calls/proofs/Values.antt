@@ -2,6 +2,8 @@
 use Rattle.std.proofs.Common.{ℕ, ◌≡◌, sym, ap, subst, arith, ℤ, pos, negsuc, Bool, true, false, eqb}
 use Rattle.std.specs.Prelude.{IsTrue}
 use Rattle.loda_semantics.specs.Exec.{Outcome, value, fault, out}
+use Rattle.seq_calls.specs.declared.outcomes.Outcome.TheVariants as told_as
+use Rattle.seq_calls.specs.Frames.{told}
 use Rattle.seq_calls.specs.Values.{same_int, Gives}
 
 eqb-is : (a b : ℕ) → IsTrue (eqb a b) → a ≡ b
@@ -32,3 +34,9 @@ gives_this o t used e = subst (λ z. Gives z t) (sym e) (same_int-true t)
 -- an outcome that is the value v gives no other number
 pub gives_same : (o : Outcome) (v t : ℤ) (used : ℕ) → o ≡ value v used → Gives o t → t ≡ v
 gives_same o v t used e g = sym (same_int-is v t (subst (λ z. Gives z t) e g))
+
+-- what is told as a value is that value
+pub told_value : (o : Outcome) (v : ℤ) (n : ℕ) → told o ≡ told_as.Value v n → o ≡ value v n
+told_value (value w m) v n e = let z : told_as.Value w m ≡ told_as.Value v n = e in cc
+told_value (fault k m) v n e = absurd (let z : told_as.Fault k m ≡ told_as.Value v n = e in cc)
+told_value (out m) v n e = absurd (let z : told_as.OutOfSteps ≡ told_as.Value v n = e in cc)

@@ -1,5 +1,7 @@
 //! What a run comes to.
 
+ghost use Rattle.std.specs.Prelude.{ℕ, ◌≡◌, ◌↔◌, IsTrue};
+
 use crate::pairs_list::Pairs;
 use checked_numbers::Num;
 use loda_semantics::{FaultKind, Pair};
@@ -10,6 +12,18 @@ pub enum Outcome {
     Value { value: Num, steps: u64 },
     Fault { kind: FaultKind, steps: u64 },
     OutOfSteps,
+}
+
+impl Outcome {
+    /// Whether it is this value, in whatever steps.
+    pub fn is_value(self, value: Num) -> bool
+        ensures { IsTrue result ↔ ((used : ℕ) × (self ≡ Outcome.Value value used)) }
+    {
+        match self {
+            Outcome::Value { value: other, .. } => other.get() == value.get(),
+            _ => false,
+        }
+    }
 }
 
 /// A run of a name that ended with a value.

@@ -5,7 +5,7 @@ use Rattle.std.specs.Option.{option_and_then}
 use Rattle.std.specs.Char.{is_ascii_digit}
 use Rattle.std.proofs.lemmas.Bool.{ne_eqb}
 use Rattle.std.proofs.lemmas.Bool.Decides.{nat_tests}
-use Rattle.text_parts.specs.Digits.{digits_after, number_of}
+use Rattle.text_parts.specs.Digits.{digits_after, number_spelled}
 use Rattle.text_parts.proofs.Number.{below_million}
 use Rattle.text_parts.specs.Names.{IsName, last_digits, name_text, if_not_zero, name_read}
 
@@ -29,7 +29,7 @@ value_of : (q : ℕ) → q ≤ 999999
     → 10 * (10 * (10 * (10 * (10 * (10 * 0 + q / 10 / 10 / 10 / 10 / 10 % 10) + q / 10 / 10 / 10 / 10 % 10) + q / 10 / 10 / 10 % 10) + q / 10 / 10 % 10) + q / 10 % 10) + q % 10 ≡ q
 value_of q le = omega arith
 
-digits_back : (q : ℕ) → q ≤ 999999 → number_of (last_digits 6 q) ≡ Some q
+digits_back : (q : ℕ) → q ≤ 999999 → number_spelled (last_digits 6 q) ≡ Some q
 digits_back q le =
     six (q / 10 / 10 / 10 / 10 / 10 % 10) (q / 10 / 10 / 10 / 10 % 10) (q / 10 / 10 / 10 % 10) (q / 10 / 10 % 10) (q / 10 % 10) (q % 10) (omega arith) (omega arith) (omega arith) (omega arith) (omega arith) (omega arith)
     ∙ ap (λ n. Some n) (value_of q le)
@@ -43,11 +43,11 @@ name_back q named = rw (digits_back q named.1) (not_zero q named.0)
 
 -- ---- what is read as a name
 
-read_digits : (b : Bool) (ds : List ℕ) (q : ℕ) → (b ≡ true → length ds ≡ 6) → cond b (option_and_then if_not_zero (number_of ds)) None ≡ Some q → IsName q
+read_digits : (b : Bool) (ds : List ℕ) (q : ℕ) → (b ≡ true → length ds ≡ 6) → cond b (option_and_then if_not_zero (number_spelled ds)) None ≡ Some q → IsName q
 read_digits false ds q six e = absurd cc
-read_digits true ds q six e = not_none (number_of ds) refl e
+read_digits true ds q six e = not_none (number_spelled ds) refl e
   where
-    not_zero_is : (n : ℕ) (z : Bool) → eqb n 0 ≡ z → number_of ds ≡ Some n → cond z None (Some n) ≡ Some q → IsName q
+    not_zero_is : (n : ℕ) (z : Bool) → eqb n 0 ≡ z → number_spelled ds ≡ Some n → cond z None (Some n) ≡ Some q → IsName q
     not_zero_is n true z is h = absurd cc
     not_zero_is n false z is h =
         let same : n ≡ q = cc in
@@ -55,7 +55,7 @@ read_digits true ds q six e = not_none (number_of ds) refl e
         let below = below_million ds n (six refl) is in
         (rw (← same) positive, rw (← same) (omega (arith, below)))
 
-    not_none : (o : Option ℕ) → number_of ds ≡ o → option_and_then if_not_zero o ≡ Some q → IsName q
+    not_none : (o : Option ℕ) → number_spelled ds ≡ o → option_and_then if_not_zero o ≡ Some q → IsName q
     not_none None is h = absurd cc
     not_none (Some n) is h = not_zero_is n (eqb n 0) refl is h
 
@@ -75,6 +75,6 @@ unfolding name_read
 short_is_none [] lt = refl
 short_is_none (b ∷ bs) lt = rw (ne_eqb (length bs) 6 (λ e. omega arith)) (neither (eqb b 65))
   where
-    neither : (a : Bool) → cond (a && false) (option_and_then if_not_zero (number_of bs)) None ≡ None
+    neither : (a : Bool) → cond (a && false) (option_and_then if_not_zero (number_spelled bs)) None ≡ None
     neither true = refl
     neither false = refl

@@ -4,7 +4,7 @@ use Rattle.std.specs.Prelude.{Option, Some, None}
 use Rattle.std.proofs.Math.Nat.{mul-le-mul_right, pow-succ'}
 use Rattle.std.specs.Char.{is_ascii_digit}
 use Rattle.std.proofs.lemmas.List.{drop_more}
-use Rattle.text_parts.specs.Digits.{digits_after, number_of, up_to}
+use Rattle.text_parts.specs.Digits.{digits_after, number_spelled, up_to}
 
 same_step : (most : ℕ) (b : Bool) (x y : Option ℕ) → up_to most x ≡ up_to most y → up_to most (cond b x None) ≡ up_to most (cond b y None)
 same_step most true x y e = e
@@ -46,10 +46,10 @@ within (Some m) most number h e =
     let same : number ≡ m = omega arith in
     (omega arith, ap (λ n. Some n) same)
 
-pub below_million : (ds : List ℕ) (m : ℕ) → length ds ≡ 6 → number_of ds ≡ Some m → m < 1_000_000
+pub below_million : (ds : List ℕ) (m : ℕ) → length ds ≡ 6 → number_spelled ds ≡ Some m → m < 1_000_000
 below_million [] m len h = absurd cc
 below_million (c ∷ cs) m len h = let below = below_power (c ∷ cs) 0 m h in let b : m < (0 + 1) * 10 ^ 6 = rw len at below in omega arith
 
 -- six digits spell a number below a million
-pub six_digits : (ds : List ℕ) (number : ℕ) → length ds ≡ 6 → Some number ≡ up_to 1_000_000 (number_of ds) → (number < 1_000_000) × (Some number ≡ number_of ds)
-six_digits ds number len e = within (number_of ds) 1_000_000 number (λ m h. below_million ds m len h) e
+pub six_digits : (ds : List ℕ) (number : ℕ) → length ds ≡ 6 → Some number ≡ up_to 1_000_000 (number_spelled ds) → (number < 1_000_000) × (Some number ≡ number_spelled ds)
+six_digits ds number len e = within (number_spelled ds) 1_000_000 number (λ m h. below_million ds m len h) e

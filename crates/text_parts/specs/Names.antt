@@ -1,7 +1,7 @@
 -- A-numbers, as they are written and read.
 use Rattle.std.specs.Prelude.{ℕ, zero, suc, ◌/◌, ◌%◌, ◌+◌, ◌≤◌, ◌≡◌, List, [], ◌∷◌, ◌++◌, length, ◌==◌, ◌&&◌, if◌then◌else◌, Option, Some, None}
 use Rattle.std.specs.Option.{option_and_then}
-use Rattle.text_parts.specs.Digits.{number_of}
+use Rattle.text_parts.specs.Digits.{number_spelled}
 
 -- a name: a number from 1 to 999,999
 abbrev pub IsName : ℕ → Type 0
@@ -23,7 +23,7 @@ if_not_zero n = if n == 0 then None else Some n
 -- a name: `A` and six digits that aren't all 0
 unfoldable pub name_read : List ℕ → Option ℕ
 name_read [] = None
-name_read (b ∷ bs) = if b == 65 && length bs == 6 then option_and_then if_not_zero (number_of bs) else None
+name_read (b ∷ bs) = if b == 65 && length bs == 6 then option_and_then if_not_zero (number_spelled bs) else None
 
 -- the text of a name is read as that name
 abbrev pub NameTextReadsBack : Type 0

@@ -1,11 +1,11 @@
 //! Decimal numbers that stop at a limit, so that digits of any length cost one pass.
 
 ghost use Rattle.std.specs.Prelude.{◌≡◌, ◌+◌, ◌*◌, ◌≤◌, ◌<◌, min};
-ghost use Rattle.text_parts.specs.Digits.{number_of, decimal_of, up_to};
+ghost use Rattle.text_parts.specs.Digits.{number_spelled, decimal_spelled, up_to};
 
 /// The number that the digits spell, or `most` where it is no less. None exactly where they are no digits, or none stands there.
 pub fn number_up_to(digits: &[u8], most: u128) -> Option<u128>
-    ensures { result ≡ up_to most (number_of digits.now) }
+    ensures { result ≡ up_to most (number_spelled digits.now) }
 {
     if digits.is_empty() {
         return None;
@@ -30,7 +30,7 @@ fn next_number(number: u128, digit: u8, most: u128) -> u128
 
 /// A decimal number without a sign or a leading 0, or `most` where it is no less.
 pub fn decimal_up_to(text: &[u8], most: u128) -> Option<u128>
-    ensures { result ≡ up_to most (decimal_of text.now) }
+    ensures { result ≡ up_to most (decimal_spelled text.now) }
 {
     match text {
         [b'0', _, ..] => None,

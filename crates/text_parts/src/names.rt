@@ -1,7 +1,7 @@
 //! A-numbers, the names of sequences in the OEIS: `A` and six digits that are not all 0.
 
 ghost use Rattle.std.specs.Prelude.{◌≡◌, ◌+◌, ◌%◌, ◌≤◌, length, IfSome};
-ghost use Rattle.text_parts.specs.Digits.{number_of};
+ghost use Rattle.text_parts.specs.Digits.{number_spelled};
 ghost use Rattle.text_parts.specs.Names.{IsName, name_read, name_text};
 
 use crate::digits::number_up_to;
@@ -27,7 +27,7 @@ pub fn name_of(text: &[u8]) -> Option<u32>
 
 fn six_digits(digits: &[u8]) -> Option<u32>
     requires { length digits.now ≡ 6 }
-    ensures value { result ≡ number_of digits.now }
+    ensures value { result ≡ number_spelled digits.now }
     ensures small { IfSome result (λ number. number ≤ 999999) }
 {
     let number = number_up_to(digits, PAST_SIX_DIGITS)?;

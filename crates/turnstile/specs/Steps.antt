@@ -44,7 +44,7 @@ module _ {V E F : Type 0} where
 
 module _ {V E F : Type 0} (list : V → List E) (fixed : V → F) where
   -- what a seat learns of the value that it took
-  pub record Finds (k : Tracked E F) (v : V) : Type 0 where
+  pub record Learns (k : Tracked E F) (v : V) : Type 0 where
     pub began : IsPrefix k.known.seen (list v)
     pub told : k.known.told ≤ length (list v)
     pub fixed_is : (x : F) → k.fixed ≡ Some x → fixed v ≡ x
@@ -52,7 +52,7 @@ module _ {V E F : Type 0} (list : V → List E) (fixed : V → F) where
   -- the seat took the turn and the slot, or found the turn held
   abbrev pub Took : Step (Option V) → Carrier V E F → ℕ → Carrier V E F → Type 0
   Took st m r m' =
-      (r ≡ 0 → (v : V) × (m' ≡ (record m.0 { known = turning (list v) m.0.known }, (0, Some v) ∷ [])) × Finds m.0 v)
+      (r ≡ 0 → (v : V) × (m' ≡ (record m.0 { known = turning (list v) m.0.known }, (0, Some v) ∷ [])) × Learns m.0 v)
       × (r ≢ 0 → m' ≡ (record m.0 { known = failed m.0.known }, []))
 
 module _ {V E F : Type 0} (list : V → List E) where

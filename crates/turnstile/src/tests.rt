@@ -1,3 +1,5 @@
+//! Seats that are taken, passed on and closed.
+
 ghost use Rattle.std.specs.Prelude.{◌≡◌, ◌+◌, ◌++◌, ◌∷◌, [], false, length, IfOk};
 ghost use Rattle.turnstile.specs.Seats.{Belongs};
 

@@ -37,13 +37,13 @@ impl<V: Kept> Model for Turnstile<V> {
 
 impl<V: Kept> Turnstile<V> {
     ghost use Rattle.turnstile.specs.Seats.{Belongs, IsTaken, IsGiven, Taking, Giving, Joining, turning, failed, resting, told_of, fresh};
-    ghost use Rattle.turnstile.specs.Steps.{Finds, Offers, Counted};
+    ghost use Rattle.turnstile.specs.Steps.{Learns, Offers, Counted};
 
     // One try to take the turn, and the value with it.
     fn try_take(&self, token: &mut Token<V>) -> Option<V>
         requires { (token.old.table_id ≡ self.now.place) × (token.old.me.0.known.turn ≡ false) × (token.old.me.1 ≡ []) }
         ensures same { (token.new.table_id ≡ token.old.table_id) × (token.new.id ≡ token.old.id) }
-        ensures taken { MatchOption result (token.new.me ≡ (record token.old.me.0 { known = failed token.old.me.0.known }, [])) (λ v. (token.new.me ≡ (record token.old.me.0 { known = turning (V.list v) token.old.me.0.known }, (0, None) ∷ [])) × Finds V.list V.fixed token.old.me.0 v) }
+        ensures taken { MatchOption result (token.new.me ≡ (record token.old.me.0 { known = failed token.old.me.0.known }, [])) (λ v. (token.new.me ≡ (record token.old.me.0 { known = turning (V.list v) token.old.me.0.known }, (0, None) ∷ [])) × Learns V.list V.fixed token.old.me.0 v) }
     {
         let shared = &self.table.shared;
         if shared.compare_exchange::<Takes>(token, TURN, 0, 1) != 0 {

@@ -1,4 +1,5 @@
-// Programs run by hand, in the language's own text beside each.
+//! Programs run by hand, in the language's own text beside each.
+
 use super::*;
 use loda_semantics::FaultKind;
 use loda_syntax::{Instr, Operand, Verb};

@@ -1,11 +1,11 @@
 use Rattle.std.proofs.Common.{arith}
 use Rattle.std.specs.Option.{option_map}
-use Rattle.oeis_terms.specs.Reading.{state_of}
+use Rattle.oeis_terms.specs.Reading.{reading_state}
 use Rattle.oeis_terms.proofs.LinesRead.{start, one_line, bad_answer, done, less_left}
 use Rattle.oeis_terms.proofs.read_lines.Goals as goal
 
 pub loop-rest-init : goal.loop-rest-init
-loop-rest-init c = record { read = start c.args.bytes.now (state_of c.in-Ok.reading) c.in-Ok.ensures; few = omega arith }
+loop-rest-init c = record { read = start c.args.bytes.now (reading_state c.in-Ok.reading) c.in-Ok.ensures; few = omega arith }
 
 pub loop-rest-preserved : goal.loop-rest-preserved
 loop-rest-preserved c =

@@ -2,7 +2,7 @@ use Rattle.std.proofs.Common.{ℕ, ◌≡◌, ◌⊎◌, ◌+◌, ◌≤◌, sym
 use Rattle.std.specs.Option.{option_copied}
 use Rattle.loda_syntax.specs.Programs.{Text}
 use Rattle.loda_semantics.specs.Exec.{Library}
-use Rattle.call_graph.specs.Closure.{Calls}
+use Rattle.call_graph.specs.Closure.{CallsName}
 use Rattle.call_graph.specs.Groups.{IsMet, IsLeft, IsKnown, IsGrouped, IsFollowed}
 use Rattle.call_graph.proofs.Sets.{read-at}
 use Rattle.call_graph.proofs.Following.{call-at, other-at, called-here, followed-up_to, followed-other, followed-all, known-fewer, known-grouped, known-followed}
@@ -44,7 +44,7 @@ returns-then-is_new-clause-some g c =
     let has : lib (get_or stack place 0) ≡ Some text =
     text-of lib stack place c.in_ok-name.name.now text c.in_ok-program.program.now is (sym c.program.ensures ∙ ap option_copied c.in_ok-program.was) c.instrs-list.ensures.value in
     subst
-    (λ (l : List ℕ). (n : ℕ) → Calls lib (get_or stack place 0) n → IsMet done stack (reverse l) place n ⊎ ((name ≡ n) ⊎ IsLeft lib (get_or stack place 0) (at + 1) n))
+    (λ (l : List ℕ). (n : ℕ) → CallsName lib (get_or stack place 0) n → IsMet done stack (reverse l) place n ⊎ ((name ≡ n) ⊎ IsLeft lib (get_or stack place 0) (at + 1) n))
     (sym (c.is_new.ensures.starts c.if-is_new.true))
     (followed-up_to lib done stack (reverse c.loop-at.starts.items) place text has at name (call-at text at _ c.in-Call.target name c.loop-at-test.true c.in-Call.is) c.loop-at.invariant.followed)
 

@@ -1,6 +1,6 @@
 use Rattle.std.proofs.Common.{ℕ, ◌≡◌, ◌-◌, ◌<◌, ◌≤◌, sym, ap, subst, ◌∙◌, List, ◌∷◌, Some, take, length, slice_get, reverse}
 use Rattle.std.specs.Option.{option_copied}
-use Rattle.call_graph.specs.Groups.{IsCut}
+use Rattle.call_graph.specs.Groups.{AreCutStarts}
 use Rattle.call_graph.proofs.Joining.{IsCutting, cutting-more, cut-at, last-read}
 use Rattle.call_graph.proofs.groups.join.Goals as goal
 
@@ -26,5 +26,5 @@ returns-then-start-place c =
     subst (λ (l : List ℕ). slice_get l (length l - 1) ≡ Some start) c.deref.ensures.value (sym c.last.ensures.value ∙ ap option_copied c.in-Some.is) in
     let top : reverse cur ≡ start ∷ reverse (take (length cur - 1) cur) = last-read cur start read in
     let le : start ≤ c.args.place = c.if-start-place.true in
-    subst (λ (l : List ℕ). IsCut old c.args.place l) (sym top)
+    subst (λ (l : List ℕ). AreCutStarts old c.args.place l) (sym top)
     (cut-at old c.args.place start (reverse (take (length cur - 1) cur)) le (subst (λ (l : List ℕ). IsCutting old c.args.place l) top c.loop-start.invariant))

@@ -6,14 +6,14 @@ use Rattle.loda_semantics.specs.declared.kinds.Pair.{Pair}
 use Rattle.demand_table.specs.declared.entry.Entry.{Entry}
 use Rattle.demand_table.specs.declared.slot.Slot.{Slot}
 use Rattle.demand_table.specs.Loaded.{slots_of, checks_in}
-use Rattle.demand_table.specs.Drawn.{Checks, Runs, Calls}
+use Rattle.demand_table.specs.Drawn.{CheckedRanges, Runs, RunCalls}
 use Rattle.demand_table.specs.Work.{Slots, runs_in, IsDropping}
 use Rattle.demand_table.proofs.Counts.{count_some}
 use Rattle.demand_table.proofs.Counted.{is_some, none_is_some}
 use Rattle.demand_table.proofs.Dead.{none_pending, passed_over, dropped, called_some, dropping_copied, emptied, set_callers, taken_from, keeps_copied, keeps_set, keeps_lowered}
 use Rattle.demand_table.proofs.dropping.drop_dead.Goals as goal
 
-at_end : (C : Checks) (R : Runs) (w : Slots) (was pending : List Pair) (p : Pair) (left : ℕ) → was ≡ pending ++ p ∷ [] → IsDropping C R w was left → IsDropping C R w (pending ++ p ∷ []) left
+at_end : (C : CheckedRanges) (R : Runs) (w : Slots) (was pending : List Pair) (p : Pair) (left : ℕ) → was ≡ pending ++ p ∷ [] → IsDropping C R w was left → IsDropping C R w (pending ++ p ∷ []) left
 at_end C R w was pending p left e h = subst (λ (l : List Pair). IsDropping C R w l left) e h
 
 pub loop-pair-preserved-then-is_checked : goal.loop-pair-preserved-then-is_checked
@@ -59,7 +59,7 @@ lower_all-requires c = λ q at.
     let p = c.in-Some.pair in
     let h = dropping_copied C R (slots_of c.args.known.now.pages.now c.loop-pair.work) w c.loop-pair.pending.items c.loop-pair.left c.in_ok-callers.ensures.same c.loop-pair.invariant.dropping in
     let entry : (w p).entry ≡ Some c.in-Some-2.entry = sym c.in_ok-entry.ensures.entry ∙ c.in-Some-2.is in
-    let call : Calls (runs_in w) p q = (c.in-Some-2.entry, entry, subst (λ (l : List Pair). Contains l q) c.list.ensures at) in
+    let call : RunCalls (runs_in w) p q = (c.in-Some-2.entry, entry, subst (λ (l : List Pair). Contains l q) c.list.ensures at) in
     let some = called_some w p q h.counted call in
     let same = set_callers w (slots_of c.args.known.now.pages.now c.take.new.work) p q c.in_ok-entry.ensures.gone in
     omega arith

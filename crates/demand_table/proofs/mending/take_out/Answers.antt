@@ -3,7 +3,7 @@ use Rattle.std.specs.Prelude.{IsSome}
 use Rattle.std.specs.declared.option.Option.TheVariants.{Some, None}
 use Rattle.loda_semantics.specs.declared.kinds.Pair.{Pair}
 use Rattle.demand_table.specs.declared.entry.Entry.{Entry}
-use Rattle.demand_table.specs.Drawn.{Calls}
+use Rattle.demand_table.specs.Drawn.{RunCalls}
 use Rattle.demand_table.specs.Work.{runs_in}
 use Rattle.demand_table.specs.Loaded.{slots_of}
 use Rattle.demand_table.proofs.Counts.{count_some}
@@ -25,7 +25,7 @@ lower_all-requires c = λ q at.
     let w = slots_of c.args.known.now.pages.now c.args.work.now in
     let p = c.args.pair.now in
     let entry : (w p).entry ≡ Some c.in-Some.entry = sym c.in_ok-entry.ensures.entry ∙ c.in-Some.is in
-    let call : Calls (runs_in w) p q = (c.in-Some.entry, entry, subst (λ (l : List Pair). Contains l q) c.list.ensures at) in
+    let call : RunCalls (runs_in w) p q = (c.in-Some.entry, entry, subst (λ (l : List Pair). Contains l q) c.list.ensures at) in
     let some = called_some w p q c.requires.counted call in
     let same = set_callers w (slots_of c.args.known.now.pages.now c.take.new.work) p q c.in_ok-entry.ensures.gone in
     omega arith

@@ -1,7 +1,7 @@
 use Rattle.std.proofs.Common.{ℕ, ◌+◌, ◌≡◌, ◌∙◌, refl, sym, ap, subst, take, List, [], ◌∷◌, ◌++◌, Contains}
 use Rattle.text_parts.specs.Names.{IsName}
 use Rattle.loda_semantics.specs.declared.kinds.Pair.{Pair}
-use Rattle.demand_table.specs.Upward.{names_under}
+use Rattle.demand_table.specs.Upward.{names_filed_under}
 use Rattle.demand_table.specs.Reaching.{Index, Grows}
 use Rattle.demand_table.proofs.Lowering.{upto}
 use Rattle.demand_table.proofs.Reached.{IsReaching, reaching_more, was_met_call}
@@ -18,11 +18,11 @@ loop-call-preserved c =
     let done = take c.loop-call.call-index calls in
     let e = upto calls c.loop-call.call-index call c.loop-call-test.true c.call-item.is in
     let inv = subst (λ (l : List Pair). IsReaching first was c.loop-call.met from (take c.loop-call.call-index l)) (sym c.list-call-items.ensures) c.loop-call.invariant in
-    let both : Grows was c.if-branch.callers × (IsName call.name → Contains (names_under c.if-branch.callers call.name) from) = elim c.if-branch.branch [
+    let both : Grows was c.if-branch.callers × (IsName call.name → Contains (names_filed_under c.if-branch.callers call.name) from) = elim c.if-branch.branch [
       | then-branch+in_ok-add_caller w ↦
-          subst (λ (k : Index). Grows was k × (IsName call.name → Contains (names_under k call.name) from)) (sym w.callers-is) (w.in_ok-add_caller.ensures.grows, w.in_ok-add_caller.ensures.here)
+          subst (λ (k : Index). Grows was k × (IsName call.name → Contains (names_filed_under k call.name) from)) (sym w.callers-is) (w.in_ok-add_caller.ensures.grows, w.in_ok-add_caller.ensures.here)
       | else-branch w ↦
-          subst (λ (k : Index). Grows was k × (IsName call.name → Contains (names_under k call.name) from)) (sym w.callers-is)
+          subst (λ (k : Index). Grows was k × (IsName call.name → Contains (names_filed_under k call.name) from)) (sym w.callers-is)
           (λ to from at. at, was_met_call c.loop-call.met was call.name from c.in_ok-insert.field-0 c.loop-call.invariant.met_calls c.in_ok-insert.ensures.added w.if-branch.false)
     ] in
     subst (λ (l : List Pair). IsReaching first c.if-branch.callers c.insert.new.self from l) (sym e ∙ ap (take (c.loop-call.call-index + 1)) c.list-call-items.ensures)

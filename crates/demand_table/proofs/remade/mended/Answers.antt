@@ -4,7 +4,7 @@ use Rattle.loda_semantics.specs.declared.kinds.Pair.{Pair}
 use Rattle.demand_table.specs.declared.work.Work.{Work}
 use Rattle.demand_table.specs.declared.node.Node.{Node}
 use Rattle.demand_table.specs.Counts.{IsCount}
-use Rattle.demand_table.specs.Drawn.{Checks, Runs, Drawing, IsDrawn, with_range, HasNoCycle}
+use Rattle.demand_table.specs.Drawn.{CheckedRanges, Runs, Drawing, IsDrawn, with_range, HasNoCycle}
 use Rattle.demand_table.specs.Loaded.{Folders, slots_of, slot_of, node_at, checks_of, checks_in}
 use Rattle.demand_table.specs.Work.{Slots, runs_in, IsDropping, IsDropped}
 use Rattle.demand_table.specs.Settling.{IsSettling}

@@ -6,14 +6,14 @@ use Rattle.demand_table.specs.Drawn.{with_range}
 use Rattle.demand_table.specs.Loaded.{Folders, slots_of, node_at, checks_of}
 use Rattle.demand_table.specs.Mended.{mended, runs_of, drawing_of}
 use Rattle.demand_table.specs.Ascending.{AllAscend}
-use Rattle.demand_table.specs.Upward.{names_under}
+use Rattle.demand_table.specs.Upward.{names_filed_under}
 use Rattle.demand_table.proofs.Holds.{covered, covers_next, drawn_next, drawn_own, count_next}
 use Rattle.demand_table.proofs.replacing.replaced.Goals as goal
 
 pub mended-requires-clause-covers : goal.mended-requires-clause-covers
 mended-requires-clause-covers c =
     covered c.args.parts.now.folders c.args.parts.now.callers c.in_ok-callers.callers c.args.parts.now.nodes c.deref.result.now c.requires.held c.in_ok-callers.ensures.grows
-    (subst (λ (l : List ℕ). (to from : ℕ) → Contains l to → Contains (names_under c.in_ok-callers.callers to) from → Contains l from) (sym c.deref.ensures.value) c.in_ok-names.ensures.closed)
+    (subst (λ (l : List ℕ). (to from : ℕ) → Contains l to → Contains (names_filed_under c.in_ok-callers.callers to) from → Contains l from) (sym c.deref.ensures.value) c.in_ok-names.ensures.closed)
 
 pub returns-clause-drawn : goal.returns-clause-drawn
 returns-clause-drawn c =

@@ -3,16 +3,16 @@ use Rattle.std.specs.Prelude.{IsSome}
 use Rattle.std.specs.declared.option.Option.TheVariants.{Some, None}
 use Rattle.loda_semantics.specs.declared.kinds.Pair.{Pair}
 use Rattle.demand_table.specs.declared.entry.Entry.{Entry}
-use Rattle.demand_table.specs.Drawn.{Calls}
+use Rattle.demand_table.specs.Drawn.{RunCalls}
 use Rattle.demand_table.specs.Work.{Slots, runs_in}
 use Rattle.demand_table.specs.Settling.{CanSettle, IsUnsettled}
 use Rattle.demand_table.specs.Loaded.{slots_of}
 use Rattle.demand_table.proofs.settling.step.Goals as goal
 
 a_call : (w : Slots) (p to : Pair) (e : Entry) (calls : List Pair) → CanSettle w → (w p).entry ≡ Some e → calls ≡ e.calls → Contains calls to → (w to).total ≡ None
-    → Calls (runs_in w) p to × IsUnsettled w to
+    → RunCalls (runs_in w) p to × IsUnsettled w to
 a_call w p to e calls can is same at unknown =
-    let call : Calls (runs_in w) p to = (e, is, subst (λ (l : List Pair). Contains l to) same at) in
+    let call : RunCalls (runs_in w) p to = (e, is, subst (λ (l : List Pair). Contains l to) same at) in
     (call, record { stands = can.closed p to call; unknown = unknown })
 
 pub returns-in-Some : goal.returns-in-Some

@@ -5,7 +5,7 @@ use Rattle.std.specs.BTreeMap as tree
 use Rattle.std.specs.declared.option.Option.{Option}
 use Rattle.std.specs.declared.option.Option.TheVariants.{Some, None}
 use Rattle.demand_table.specs.declared.slot.Slot.{Slot}
-use Rattle.demand_table.specs.Loaded.{slots_of, slot_at, blank}
+use Rattle.demand_table.specs.Loaded.{slots_of, slot_at, blank_slot}
 use Rattle.demand_table.proofs.Loaded.{slot_others, through_others}
 use Rattle.demand_table.proofs.slots.load.Goals as goal
 use Rattle.demand_table.proofs.slots.load.Goals.{in-Some, in-None}
@@ -14,11 +14,11 @@ pub returns-clause-slot : goal.returns-clause-slot
 returns-clause-slot c =
     let before = c.in_ok-slots.slots in
     let x = c.args.pair.now.arg in
-    let found : c.match-remove.slot ≡ unwrap_or c.remove.result blank = elim c.match-remove.branch [
-      | in-Some w ↦ w.slot-is ∙ ap (λ (o : Option Slot). unwrap_or o blank) (sym w.in-Some.is)
-      | in-None w ↦ w.slot-is ∙ ap (λ (o : Option Slot). unwrap_or o blank) (sym w.in-None.is)
+    let found : c.match-remove.slot ≡ unwrap_or c.remove.result blank_slot = elim c.match-remove.branch [
+      | in-Some w ↦ w.slot-is ∙ ap (λ (o : Option Slot). unwrap_or o blank_slot) (sym w.in-Some.is)
+      | in-None w ↦ w.slot-is ∙ ap (λ (o : Option Slot). unwrap_or o blank_slot) (sym w.in-None.is)
     ] in
-    found ∙ ap (λ (o : Option Slot). unwrap_or o blank) c.remove.ensures.value ∙ c.in_ok-slots.ensures.slots x
+    found ∙ ap (λ (o : Option Slot). unwrap_or o blank_slot) c.remove.ensures.value ∙ c.in_ok-slots.ensures.slots x
 
 pub returns-clause-others : goal.returns-clause-others
 returns-clause-others c =

@@ -10,7 +10,7 @@ use Rattle.demand_table.specs.Replaceable.{AreRuns, IsReplaceable}
 use Rattle.evidence.specs.declared.weighing.Weighed.{Weighed}
 use Rattle.evidence.specs.Trials.{IsWeighed}
 use Rattle.evidence.specs.Dossiers.{Dossier}
-use Rattle.evidence.specs.Findings.{accepted_count, AreRunsFor, IsTrue}
+use Rattle.evidence.specs.Findings.{accepted_count, AreRunsFor, IsTrueFinding}
 use Rattle.evidence.proofs.Replaceable.{replaceable}
 use Rattle.evidence.proofs.gathering.gather_judged.Goals as goal
 
@@ -42,4 +42,4 @@ pub returns-clause-finding : goal.returns-clause-finding
 returns-clause-finding g c =
     let s = c.args.snapshot.now.store in
     let w : IsWeighed s (row_of c.args.terms.now) c.args.limit c.args.proposal c.in_ok-answer.field-0 = subst (λ (t : Store). IsWeighed t (row_of c.args.terms.now) c.args.limit c.args.proposal c.in_ok-answer.field-0) c.tables.ensures c.in_ok-answer.ensures.weighed in
-    subst (λ (d : Dossier). IsTrue s (row_of c.args.terms.now) c.args.limit d.finding) (sym c.of.ensures) w.answer
+    subst (λ (d : Dossier). IsTrueFinding s (row_of c.args.terms.now) c.args.limit d.finding) (sym c.of.ensures) w.answer

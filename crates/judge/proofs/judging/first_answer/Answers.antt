@@ -1,7 +1,7 @@
 use Rattle.std.proofs.Common.{sym}
 use Rattle.oeis_terms.specs.Table.{row_of}
 use Rattle.judge.specs.Judged.{IsJudged}
-use Rattle.judge.specs.Replaced.{IsAnswer}
+use Rattle.judge.specs.Replaced.{IsAnswerForAnyTerms}
 use Rattle.judge.proofs.Sides.{if_ok}
 use Rattle.judge.proofs.Rows.{bounded_row}
 use Rattle.judge.proofs.Fresh.{judged_cycle, enters, judged_wrong, passes, judged_new}
@@ -53,5 +53,5 @@ returns-clause-judged g c =
     let passes_all = passes s terms c.args.limit q p c.in-Some.row.now listed lib (λ i n. g.met.V.View.same_programs c.args.view.now n i)
     (enters s terms c.args.limit q p c.in-Some.row.now listed lib (λ i n. g.met.V.View.same_programs c.args.view.now n i) c.in_ok-through.field-0 c.in_default-2.is c.in_ok-through.ensures.none)
     c.checked_count-old.result c.in_ok-index.field-0 c.in-Checked.checked c.checked_count-old.ensures c.in-Checked.is c.in_ok-index.ensures in
-    if_ok c.replacement_answer.result (IsAnswer s c.args.limit q p c.in-Checked.checked) (IsJudged s terms c.args.limit q p)
+    if_ok c.replacement_answer.result (IsAnswerForAnyTerms s c.args.limit q p c.in-Checked.checked) (IsJudged s terms c.args.limit q p)
     (λ a h. h terms c.in-Some.row.now c.requires.sound passes_all) c.replacement_answer.ensures

@@ -4,7 +4,7 @@ use Rattle.oeis_terms.specs.Table.{Table, row_of}
 use Rattle.program_store.specs.Store.{Store}
 use Rattle.evidence.specs.declared.finding.Finding.{Finding}
 use Rattle.evidence.specs.Dossiers.{Snapshot}
-use Rattle.evidence.specs.Findings.{IsTrue}
+use Rattle.evidence.specs.Findings.{IsTrueFinding}
 use Rattle.publish_desk.specs.Desk.{origin_of}
 use Rattle.publish_desk.specs.History.{proposal_of}
 use Rattle.publish_desk.proofs.Fitting.{fits_now}
@@ -18,10 +18,10 @@ returns-clause-fits g c =
     let now : f.snapshot ≡ record { store = d.store; version = d.version; length = length d.journal } = told.snapshot ∙ c.in_ok-snapshot.ensures in
     let base : f.base ≡ d.version = told.base ∙ ap (λ (s : Snapshot). s.version) c.in_ok-snapshot.ensures in
     let store : f.snapshot.store ≡ d.store = ap (λ (s : Snapshot). s.store) now in
-    let true_there : IsTrue d.store (row_of c.deref.result.now) c.limit.result f.finding = subst (λ (s : Snapshot). IsTrue s.store (row_of c.deref.result.now) c.limit.result f.finding) c.in_ok-snapshot.ensures told.finding in
-    let true_here : IsTrue d.store (row_of d.charter.terms) d.charter.limit f.finding =
-    subst (λ (n : ℕ). IsTrue d.store (row_of d.charter.terms) n f.finding) c.limit.ensures
-    (subst (λ (t : Table). IsTrue d.store (row_of t) c.limit.result f.finding) (c.deref.ensures ∙ c.terms.ensures) true_there) in
+    let true_there : IsTrueFinding d.store (row_of c.deref.result.now) c.limit.result f.finding = subst (λ (s : Snapshot). IsTrueFinding s.store (row_of c.deref.result.now) c.limit.result f.finding) c.in_ok-snapshot.ensures told.finding in
+    let true_here : IsTrueFinding d.store (row_of d.charter.terms) d.charter.limit f.finding =
+    subst (λ (n : ℕ). IsTrueFinding d.store (row_of d.charter.terms) n f.finding) c.limit.ensures
+    (subst (λ (t : Table). IsTrueFinding d.store (row_of t) c.limit.result f.finding) (c.deref.ensures ∙ c.terms.ensures) true_there) in
     let about = told.about in
     let proposed : origin_of d.charter f.job d.store (proposal_of f.finding) =
     subst (λ (n : ℕ). origin_of d.charter n d.store (proposal_of f.finding)) (sym told.job)

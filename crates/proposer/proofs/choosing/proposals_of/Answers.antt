@@ -7,7 +7,7 @@ use Rattle.text_parts.specs.Names.{IsName}
 use Rattle.program_store.specs.Store.{IsProposal}
 use Rattle.term_index.specs.declared.form.Match.{Match}
 use Rattle.term_index.specs.Matching.{matches_of}
-use Rattle.proposer.specs.Short.{proposal_of}
+use Rattle.proposer.specs.Short.{proposal_of_match}
 use Rattle.proposer.proofs.Matched.{made_next, matches_named, few_matches}
 use Rattle.proposer.proofs.choosing.proposals_of.Goals as goal
 
@@ -23,7 +23,7 @@ proposal_of-requires-clause-named g c =
 
 pub loop-found-preserved : goal.loop-found-preserved
 loop-found-preserved g c = record {
-  made = made_next (proposal_of (g.B.Library.programs c.args.lib.now) c.args.terms.now c.args.limit c.args.program.now) IsProposal c.deref-found-items.result.now
+  made = made_next (proposal_of_match (g.B.Library.programs c.args.lib.now) c.args.terms.now c.args.limit c.args.program.now) IsProposal c.deref-found-items.result.now
       c.loop-found.found-index c.loop-found.list.items c.add.new.list.items c.found-item.result c.in_ok-made.made c.loop-found.invariant.made
       c.loop-found-test.true c.found-item.is c.in_ok-made.ensures.proposal
       (λ y e. subst (λ (o : Option Proposal). IfSome o IsProposal) e c.in_ok-made.ensures.well_formed) c.in_ok-add.ensures;

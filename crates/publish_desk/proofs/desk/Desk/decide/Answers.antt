@@ -8,8 +8,8 @@ use Rattle.evidence.specs.declared.finding.Finding.{Finding}
 use Rattle.evidence.specs.Findings.{next_store}
 use Rattle.publish_desk.specs.declared.entry.Entry.{Entry}
 use Rattle.publish_desk.specs.Source.{source_of}
-use Rattle.publish_desk.specs.History.{Made, IsDoneAt, IsMissing, IsPlaceOf, Publishes, ArePlaces, AreMarks}
-use Rattle.publish_desk.specs.Desk.{Desk, decided, IsFitting, IsKept, IsDecided}
+use Rattle.publish_desk.specs.History.{MakesVersion, IsDoneAt, IsMissing, IsPlaceOf, Publishes, ArePlaces, AreMarks}
+use Rattle.publish_desk.specs.Desk.{Desk, decided, IsFitting, IsKept, IsDecidedAt}
 use Rattle.publish_desk.proofs.Places.{place_at, done_at, missing_at, mark_at, shown, same_name}
 use Rattle.publish_desk.proofs.Publish.{room_for, version_bound}
 use Rattle.publish_desk.proofs.Whole.{entry_of, decided_without, decided_with}

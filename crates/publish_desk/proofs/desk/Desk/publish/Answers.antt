@@ -8,8 +8,8 @@ use Rattle.evidence.specs.declared.finding.Finding.{Finding}
 use Rattle.evidence.specs.Findings.{next_store}
 use Rattle.publish_desk.specs.declared.entry.Entry.{Entry}
 use Rattle.publish_desk.specs.Source.{source_of}
-use Rattle.publish_desk.specs.History.{Made, IsDoneAt, IsMissing, IsPlaceOf, Publishes, ArePlaces, AreMarks}
-use Rattle.publish_desk.specs.Desk.{Desk, decided, IsFitting, IsKept, IsDecided}
+use Rattle.publish_desk.specs.History.{MakesVersion, IsDoneAt, IsMissing, IsPlaceOf, Publishes, ArePlaces, AreMarks}
+use Rattle.publish_desk.specs.Desk.{Desk, decided, IsFitting, IsKept, IsDecidedAt}
 use Rattle.publish_desk.proofs.Places.{place_at, done_at, missing_at, mark_at, shown, same_name}
 use Rattle.publish_desk.proofs.Publish.{room_for, version_bound}
 use Rattle.publish_desk.proofs.Whole.{entry_of, decided_without, decided_with}
@@ -72,12 +72,12 @@ returns-then-seen-self c =
     let made = mark_at d.version d.journal inside.marks.items f.snapshot.version c.index-first.result.now inv.3 late first in
     let s = (shown d.journal f.snapshot.version c.index-first.result.now made.0 c.index.result.now made.1).1 in
     let name : made.0 ≡ c.name_of-name.result = same_name c.index.result.now.finding made.0 c.name_of-name.result (subst (λ (e : Entry). Publishes e.finding made.0) (sym c.index.ensures) s) c.name_of-name.ensures in
-    let there : Made d.journal f.snapshot.version c.index-first.result.now c.name_of-name.result = subst (λ (n : ℕ). Made d.journal f.snapshot.version c.index-first.result.now n) name made.1 in
+    let there : MakesVersion d.journal f.snapshot.version c.index-first.result.now c.name_of-name.result = subst (λ (n : ℕ). MakesVersion d.journal f.snapshot.version c.index-first.result.now n) name made.1 in
     record {
       missing = subst (λ (e : Desk). IsMissing e.journal f.job) c.self.view_is missing;
       newer = subst (λ (e : Desk). f.snapshot.version < e.version) c.self.view_is late;
       present = ap (λ (e : Desk). e.version) c.self.view_is;
-      made = subst (λ (e : Desk). Made e.journal f.snapshot.version c.index-first.result.now c.name_of-name.result) c.self.view_is there;
+      made = subst (λ (e : Desk). MakesVersion e.journal f.snapshot.version c.index-first.result.now c.name_of-name.result) c.self.view_is there;
       same = refl;
       unchanged = refl;
     }
