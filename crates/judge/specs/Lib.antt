@@ -6,3 +6,4 @@ pub mod Kept
 pub mod One
 pub mod Changes
 pub mod Replaced
+pub mod Places

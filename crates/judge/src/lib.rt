@@ -4,6 +4,7 @@
 mod answer;
 mod comparing;
 mod demanding;
+mod directory;
 mod judging;
 mod opening;
 mod passing;

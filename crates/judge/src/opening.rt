@@ -9,11 +9,13 @@ ghost use Rattle.judge.specs.Passed.{IsPassed};
 ghost use Rattle.judge.specs.Sound.{Sound, IsUnsound};
 
 use crate::answer::Unsound;
+use crate::directory::{Directory, table};
 use crate::passing::first_miss;
 use call_graph::cycle;
 use checked_numbers::Num;
 use oeis_terms::TermTable;
 use program_store::{Library, View};
+use seq_calls::Evaluator;
 use std::alloc::{AllocError, Global};
 
 /// Why a store is not found sound.
@@ -47,7 +49,8 @@ pub fn check_terms<B: Library>(
     requires { length terms.now ≤ 32768 }
     ensures { IfOk result (IsPassed (B.programs lib.now) terms.now name limit) }
 {
-    let (count, _) = first_miss(alloc, lib, terms, name, limit)?;
+    let mut evaluator = Evaluator::new(alloc);
+    let (count, _) = first_miss(&mut evaluator, lib, terms, name, limit)?;
     Ok(count)
 }
 
@@ -62,16 +65,16 @@ fn first_terms(row: &[Num], count: u32) -> &[Num]
 // What is wrong with the entry of a name, if there is one: no row, a count that is out of bounds, or the first of the
 // checked terms that is not given.
 fn entry_fault<V: View>(
-    alloc: Global,
-    view: &V,
+    evaluator: &mut Evaluator,
+    directory: &Directory<V>,
     terms: &TermTable,
     limit: u64,
     name: u32,
 ) -> Result<Option<Unsound>, AllocError>
     requires { IsBounded terms.now }
-    ensures { IfOk result (IsEntryFault (V.store view.now) (row_of terms.now) limit name) }
+    ensures { IfOk result (IsEntryFault (V.store directory.now.base.now) (row_of terms.now) limit name) }
 {
-    let Some(published) = view.published(name) else {
+    let Some(published) = directory.base.published(name) else {
         return Ok(None);
     };
     let checked = published.checked;
@@ -87,7 +90,7 @@ fn entry_fault<V: View>(
         }));
     }
     let checked_terms = first_terms(row, checked);
-    let found = first_miss(alloc, view, checked_terms, name, limit)?;
+    let found = first_miss(evaluator, directory, checked_terms, name, limit)?;
     let index = found.0;
     let missed = found.1;
     match missed {
@@ -111,9 +114,15 @@ pub fn check_store<V: View>(
     if let Some(through) = cycle(alloc, view)? {
         return Err(CheckError::Unsound(Unsound::Cycle { through }));
     }
+    let places = table(alloc, view)?;
+    let directory = Directory {
+        base: view,
+        places: &places,
+    };
+    let mut evaluator = Evaluator::new(alloc);
     let mut last = 0;
     while let Some(name) = view.next_name(last) {
-        if let Some(unsound) = entry_fault(alloc, view, terms, limit, name)? {
+        if let Some(unsound) = entry_fault(&mut evaluator, &directory, terms, limit, name)? {
             return Err(CheckError::Unsound(unsound));
         }
         last = name;

@@ -39,7 +39,7 @@ fn missed(outcome: Outcome, term: Num) -> Option<Got>
 /// The index of the first term that the program of a name does not give within the limit of steps, with what was got
 /// in its place, or else the number of terms.
 pub fn first_miss<B: Library>(
-    alloc: Global,
+    evaluator: &mut Evaluator,
     lib: &B,
     terms: &[Num],
     name: u32,
@@ -48,7 +48,6 @@ pub fn first_miss<B: Library>(
     requires { length terms.now ≤ 32768 }
     ensures { IfOk result (λ found. IsFirstMiss (B.programs lib.now) terms.now name limit found.0 found.1) }
 {
-    let mut evaluator = Evaluator::new(alloc);
     let mut index = 0;
     for term in terms {
         let outcome = evaluator.outcome_alone(lib, name, number_of(index), limit)?;
@@ -80,7 +79,8 @@ pub fn new_count<B: Library>(
     requires { length terms.now ≤ 32768 }
     ensures { IfOk result (IsNewCount (B.programs lib.now) terms.now name limit old) }
 {
-    match first_miss(alloc, lib, terms, name, limit)? {
+    let mut evaluator = Evaluator::new(alloc);
+    match first_miss(&mut evaluator, lib, terms, name, limit)? {
         (checked, None) => Ok(NewCount::Checked(checked)),
         (index, Some(got)) => match got {
             Got::OutOfSteps if index >= 8 && index >= old => Ok(NewCount::Checked(index)),

@@ -3,3 +3,4 @@ pub mod Frames
 pub mod Under
 pub mod Values
 pub mod Runs
+pub mod Known

@@ -1,8 +1,10 @@
 //! Runs of programs with their calls.
 
-ghost use Rattle.std.specs.Prelude.{◌≡◌, ◌+◌, ◌-◌, ◌≤◌, ◌<◌, ◌++◌, Some, IfOk, OnOk};
+ghost use Rattle.std.specs.Prelude.{◌≡◌, ◌+◌, ◌-◌, ◌≤◌, ◌<◌, ◌++◌, Some, IfOk, IfSome, OnOk};
+ghost use Rattle.std.specs.Option.{option_copied};
 ghost use Rattle.loda_semantics.specs.Exec.{run_name, run_text};
 ghost use Rattle.seq_calls.specs.Frames.{told, steps_of, nodes_of};
+ghost use Rattle.seq_calls.specs.Known.{IsKnown};
 ghost use Rattle.seq_calls.specs.Under.{IsRun};
 
 use crate::counting::Steps;
@@ -30,6 +32,30 @@ fn failed(kind: FaultKind, steps: u64) -> Outcome
     Outcome::Fault { kind, steps }
 }
 
+// A name with its program.
+#[derive(Clone, Copy)]
+struct Known<'a> {
+    name: u32,
+    program: &'a Program,
+}
+
+// The program of a name. It is looked up where it is not the one that was found last.
+#[inline(always)]
+fn found<'a, B: Library>(lib: &'a B, last: &mut Option<Known<'a>>, name: u32) -> Option<&'a Program>
+    requires { IfSome last.old (IsKnown (B.programs lib.now)) }
+    ensures program { option_copied result ≡ B.programs lib.now name }
+    ensures last { IfSome last.new (IsKnown (B.programs lib.now)) }
+{
+    if let Some(known) = last {
+        if known.name == name {
+            return Some(known.program);
+        }
+    }
+    let program = lib.program(name)?;
+    *last = Some(Known { name, program });
+    Some(program)
+}
+
 // A run of a program, with a frame for each run that has not ended. The frame of a run that ended serves the next call, of this
 // run or a later one. Finished runs are kept where the program has a name, and else nobody asks for them.
 fn run_frames<'a, B: Library>(
@@ -50,10 +76,11 @@ fn run_frames<'a, B: Library>(
     let mut callers: Vec<Caller<'a>> = Vec::new(alloc);
     let mut frame = begin(alloc, &mut finished.free, program, arg, limit)?;
     let mut text = program;
+    let mut last = None;
     loop {
         match frame.machine.advance(text, budget)? {
             Stop::Call { name, arg } => {
-                let Some(program) = lib.program(name) else {
+                let Some(program) = found(lib, &mut last, name) else {
                     return Ok(failed(FaultKind::Missing, limit - *budget));
                 };
                 let callee = begin(alloc, &mut finished.free, program, arg, *budget)?;

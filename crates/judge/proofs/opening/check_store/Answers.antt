@@ -11,6 +11,9 @@ returns-in_err-through-clause-one g c = one_reason (g.V.View.store c.args.view.n
 pub returns-in-Some-clause-one : goal.returns-in-Some-clause-one
 returns-in-Some-clause-one g c = one_reason (g.V.View.store c.args.view.now) (row_of c.args.terms.now) c.args.limit
 
+pub returns-in_err-places-clause-one : goal.returns-in_err-places-clause-one
+returns-in_err-places-clause-one g c = one_reason (g.V.View.store c.args.view.now) (row_of c.args.terms.now) c.args.limit
+
 pub returns-in_err-unsound-clause-one : goal.returns-in_err-unsound-clause-one
 returns-in_err-unsound-clause-one g c = one_reason (g.V.View.store c.args.view.now) (row_of c.args.terms.now) c.args.limit
 

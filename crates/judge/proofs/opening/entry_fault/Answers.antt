@@ -20,22 +20,22 @@ first_miss-requires g c =
 
 pub returns-in-None : goal.returns-in-None
 returns-in-None g c =
-    let lib = g.V.Library.programs c.args.view.now in
+    let lib = g.V.Library.programs c.args.directory.now.base.now in
     let taken = c.first_terms-checked_terms.result.now in
-    fault_none (g.V.View.store c.args.view.now) (row_of c.args.terms.now) c.args.limit c.args.name
+    fault_none (g.V.View.store c.args.directory.now.base.now) (row_of c.args.terms.now) c.args.limit c.args.name
     c.in-Some.published.now (sym c.in-Some.ensures.value) c.in-Some-row.row.now (sym c.in-Some-row.ensures.row)
-    lib (λ i n. g.met.V.View.same_programs c.args.view.now n i) taken
+    lib (λ i n. g.met.V.View.same_programs c.args.directory.now.base.now n i) taken
     c.if-checked-lt8.false c.if-usable-checked.false c.first_terms-checked_terms.ensures
     c.in_ok-found.found.0
     (subst (λ (o : Option Got). IsFirstMiss lib taken c.args.name c.args.limit c.in_ok-found.found.0 o) c.in-None.is c.in_ok-found.ensures)
 
 pub returns-in-Some-missed : goal.returns-in-Some-missed
 returns-in-Some-missed g c =
-    let lib = g.V.Library.programs c.args.view.now in
+    let lib = g.V.Library.programs c.args.directory.now.base.now in
     let taken = c.first_terms-checked_terms.result.now in
-    fault_unmet (g.V.View.store c.args.view.now) (row_of c.args.terms.now) c.args.limit c.args.name
+    fault_unmet (g.V.View.store c.args.directory.now.base.now) (row_of c.args.terms.now) c.args.limit c.args.name
     c.in-Some.published.now (sym c.in-Some.ensures.value) c.in-Some-row.row.now (sym c.in-Some-row.ensures.row)
-    lib (λ i n. g.met.V.View.same_programs c.args.view.now n i) taken
+    lib (λ i n. g.met.V.View.same_programs c.args.directory.now.base.now n i) taken
     c.if-checked-lt8.false c.if-usable-checked.false c.first_terms-checked_terms.ensures
     c.in_ok-found.found.0 c.in-Some-missed.got
     (subst (λ (o : Option Got). IsFirstMiss lib taken c.args.name c.args.limit c.in_ok-found.found.0 o) c.in-Some-missed.is c.in_ok-found.ensures)

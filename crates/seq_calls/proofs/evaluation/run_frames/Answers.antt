@@ -33,6 +33,7 @@ loop-frame-init g c =
       limit = refl;
       name = refl;
       kept = c.is_some-kept.ensures;
+      last = tt;
     }
 
 pub returns-in_default-clause-run : goal.returns-in_default-clause-run
@@ -40,7 +41,7 @@ returns-in_default-clause-run g c =
     missing (g.B.Library.programs c.args.lib.now) (is_some c.args.name) c.args.budget.now _ c.args.name (λ q e. ap is_some e) c.args.arg _ c.deref_mut.result.now (reverse c.loop-frame.callers.items) c.loop-frame.finished.nodes.items c.loop-frame.budget c.advance.new.budget
     c.in-Call.name c.in-Call.arg c.advance.new.self _ _ (framed _ _ _ _ _ _ _ _ _ _ c.deref_mut.ensures.value c.loop-frame.invariant.under) c.in_ok-name.ensures.budget
     (subst (λ (s : Stop). Advances c.deref_mut.result.now.machine c.loop-frame.budget s c.advance.new.budget c.advance.new.self) c.in-Call.is c.in_ok-name.ensures.stops)
-    (sym c.program.ensures ∙ ap option_copied c.in_default.is) c.failed.ensures refl
+    (sym c.found.ensures.program ∙ ap option_copied c.in_default.is) c.failed.ensures refl
 
 pub loop-frame-preserved-in-Call : goal.loop-frame-preserved-in-Call
 loop-frame-preserved-in-Call g c =
@@ -53,11 +54,12 @@ loop-frame-preserved-in-Call g c =
           c.in-Call.name c.in-Call.arg c.in-Some.program.now c.advance.new.self (framed _ _ _ _ _ _ _ _ _ _ c.deref_mut.ensures.value c.loop-frame.invariant.under)
           (subst (λ (s : Stop). Advances c.deref_mut.result.now.machine c.loop-frame.budget s c.advance.new.budget c.advance.new.self) c.in-Call.is c.in_ok-name.ensures.stops)
           c.in_ok-name.ensures.budget c.in_ok-name.ensures.program (c.in_ok-name.ensures.phase ∙ ap phase_after c.in-Call.is)
-          (sym c.program.ensures ∙ ap option_copied c.in-Some.is) e.begins e.text e.phase e.given e.calls e.below);
+          (sym c.found.ensures.program ∙ ap option_copied c.in-Some.is) e.begins e.text e.phase e.given e.calls e.below);
       within = (let a = c.in_ok-name.ensures.budget in let b = c.loop-frame.invariant.within in omega (arith, a, b));
       limit = refl;
       name = c.loop-frame.invariant.name;
       kept = c.loop-frame.invariant.kept;
+      last = c.found.ensures.last;
     }
 
 pub loop-frame-smaller-in-Call : goal.loop-frame-smaller-in-Call
@@ -118,6 +120,7 @@ loop-frame-preserved g c =
       limit = refl;
       name = c.loop-frame.invariant.name;
       kept = c.loop-frame.invariant.kept;
+      last = c.loop-frame.invariant.last;
     }
 
 pub returns-in-Fault-clause-run : goal.returns-in-Fault-clause-run
