@@ -22,7 +22,7 @@ use Rattle.seq_calls.proofs.Members.{members_are_runs}
 use Rattle.demand_table.specs.declared.entry.Entry.{Entry}
 use Rattle.demand_table.specs.declared.gathering.Gathered.{Gathered}
 use Rattle.demand_table.specs.Drawn.{RunCalls, IsReached}
-use Rattle.demand_table.specs.Gathered.{AreLiveRuns, HasRunAt, KeepsRuns, HasFirstRuns, HasRunsUpTo}
+use Rattle.demand_table.specs.Gathered.{AreLiveRuns, IsFresh, HasRunAt, KeepsRuns, HasFirstRuns, HasRunsUpTo}
 use Rattle.demand_table.specs.Loaded.{Folders}
 use Rattle.demand_table.specs.Mended.{run_of, run_at, either}
 use Rattle.demand_table.specs.Mending.{IsMending}
@@ -64,6 +64,47 @@ traced_parts q x o inner rest r in_inner in_rest at = by_rest (Contains-append_c
 frame_traced : (c : CallRecords) (r : NodeRun) → Contains (nodes_in c) r → InTrace r.pair.name r.pair.arg c
 frame_traced none r at = absurd (nil-cases r at)
 frame_traced (call q x o inner rest) r at = traced_parts q x o inner rest r (frame_traced inner r) (frame_traced rest r) at
+
+-- ---- the frames that are put in
+
+abbrev last_of : List NodeRun → NodeRun → NodeRun
+last_of [] r = r
+last_of (x ∷ xs) r = last_of xs x
+
+last_is : (xs : List NodeRun) (r d : NodeRun) → last_of (xs ++ r ∷ []) d ≡ r
+last_is [] r d = refl
+last_is (x ∷ xs) r d = last_is xs r x
+
+same_last : (xs ys : List NodeRun) (a b : NodeRun) → xs ++ a ∷ [] ≡ ys ++ b ∷ [] → a ≡ b
+same_last xs ys a b e = sym (last_is xs a a) ∙ ap (λ (l : List NodeRun). last_of l a) e ∙ last_is ys b a
+
+only : (frames : List NodeRun) (own r : NodeRun) → frames ≡ own ∷ [] → Contains frames r → own ≡ r
+only frames own r e at = elim (cons-cases own [] r (subst (λ (l : List NodeRun). Contains l r) e at)) [
+  | inl same ↦ same
+  | inr k ↦ absurd (nil-cases r k)
+]
+
+module _ (old : Slots) (all frames : List NodeRun) (fresh : IsFresh old all frames) where
+  among : (r : NodeRun) → Contains frames r → Contains all r
+  among r at = elim fresh [
+    | inl e ↦ subst (λ (l : List NodeRun). Contains l r) e at
+    | inr f ↦ subst (λ (l : List NodeRun). Contains l r) (sym f.2)
+        (Contains-append_right f.0 (f.1 ∷ []) r (subst (λ (l : List NodeRun). Contains l r) f.3 at))
+  ]
+
+  called_there : (r : NodeRun) → Contains frames r → (node : NodeRun) (to : Pair) → Contains all node → Contains r.calls to → Contains frames node ⊎ IsSome (old to).entry
+  called_there r at node to here called = elim fresh [
+    | inl e ↦ inl (subst (λ (l : List NodeRun). Contains l node) (sym e) here)
+    | inr f ↦ inr (f.4 to (subst (λ (z : NodeRun). Contains z.calls to) (sym (only frames f.1 r f.3 at)) called))
+  ]
+
+  last_there : (front : List NodeRun) (own : NodeRun) → all ≡ front ++ own ∷ [] → Contains frames own
+  last_there front own is = elim fresh [
+    | inl e ↦ subst (λ (l : List NodeRun). Contains l own) (sym (e ∙ is)) (Contains-append_right front (own ∷ []) own (cons-here own []))
+    | inr f ↦
+        let same : f.1 ≡ own = same_last f.0 front f.1 own (sym f.2 ∙ is) in
+        subst (λ (l : List NodeRun). Contains l own) (sym f.3) (subst (λ (z : NodeRun). Contains (z ∷ []) own) (sym same) (cons-here own []))
+  ]
 
 -- ---- the checked runs of a store
 
@@ -124,11 +165,11 @@ module _ (s : Store) (limit : ℕ) (fits : limit < 2 ^ 64) (checked : HasChecked
 
     -- ---- one more run
 
-    module _ (old new : Slots) (callers grown : Index) (pairs now : List Pair) (stand many : ℕ) (frames : List NodeRun)
-        (are : frames ≡ nodes_of q (pos i) (run_name (programs_of s) q (pos i) ample))
+    module _ (old new : Slots) (callers grown : Index) (pairs now : List Pair) (stand many : ℕ) (all frames : List NodeRun)
+        (are : all ≡ nodes_of q (pos i) (run_name (programs_of s) q (pos i) ample)) (fresh : IsFresh old all frames)
         (h : AreLiveRuns s old callers (Contains pairs) stand) (mending : IsMending old new frames pairs now many) (grows : Grows callers grown) (has : HasRuns grown frames) where
       in_run : (r : NodeRun) → Contains frames r → Contains (nodes_of q (pos i) (run_name (programs_of s) q (pos i) ample)) r
-      in_run r at = subst (λ (l : List NodeRun). Contains l r) are at
+      in_run r at = subst (λ (l : List NodeRun). Contains l r) are (among old all frames fresh r at)
 
       pub keeps_runs : (p : Pair) → IsSome (old p).entry → IsSome (new p).entry
       keeps_runs p there = subst IsSome (sym (mending.entry p)) (first_some (old p).entry (run_at frames p) there)
@@ -171,8 +212,11 @@ module _ (s : Store) (limit : ℕ) (fits : limit < 2 ^ 64) (checked : HasChecked
               let ran = limited_run q i lt in
               let called : Contains r.0.calls to = subst (λ (z : Entry). Contains z.calls to) (sym r.3) k.2 in
               let node = (members_are_runs (programs_of s) q (pos i) ran.value_of ample ran.used ran.calls (ample_run q i lt) r.0 (in_run r.0 r.1)).1 to called in
-              let at : Contains frames node.0 = subst (λ (l : List NodeRun). Contains l node.0) (sym are) node.1 in
-              subst (λ (z : Pair). IsSome (new z).entry) node.2 (frame_there node.0 at)
+              let at : Contains all node.0 = subst (λ (l : List NodeRun). Contains l node.0) (sym are) node.1 in
+              elim (called_there old all frames fresh r.0 r.1 node.0 to at called) [
+                | inl frame ↦ subst (λ (z : Pair). IsSome (new z).entry) node.2 (frame_there node.0 frame)
+                | inr there ↦ keeps_runs to there
+              ]
 
       covers : (from to : Pair) → RunCalls (runs_in new) from to → IsName to.name → Contains (names_filed_under grown to.name) from.name
       covers from to k named = by_case (stands_by from k.0 k.1)
@@ -207,9 +251,8 @@ module _ (s : Store) (limit : ℕ) (fits : limit < 2 ^ 64) (checked : HasChecked
       run_there =
           let ran = limited_run q i lt in
           let own : NodeRun = record { pair = pair q (pos i); value = ran.value_of; own = ran.used - steps_below ran.calls; calls = direct ran.calls } in
-          let there : Contains (nodes_of q (pos i) (run_name (programs_of s) q (pos i) ample)) own =
-          subst (λ (z : Outcome × CallRecords). Contains (nodes_of q (pos i) z) own) (sym (ample_run q i lt)) (Contains-append_right (nodes_in ran.calls) (own ∷ []) own (cons-here own [])) in
-          frame_there own (subst (λ (l : List NodeRun). Contains l own) (sym are) there)
+          let last : all ≡ nodes_in ran.calls ++ own ∷ [] = are ∙ ap (λ (z : Outcome × CallRecords). nodes_of q (pos i) z) (ample_run q i lt) in
+          frame_there own (last_there old all frames fresh (nodes_in ran.calls) own last)
 
 -- ---- argument by argument, and name by name
 

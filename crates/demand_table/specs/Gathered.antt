@@ -1,9 +1,10 @@
 -- The runs of a store's checked arguments, while they are put into slots.
-use Rattle.std.specs.Prelude.{ℕ, ◌<◌, ◌≤◌, ◌≡◌, pos, Contains, IsSome}
+use Rattle.std.specs.Prelude.{ℕ, ◌<◌, ◌≤◌, ◌≡◌, ◌⊎◌, pos, List, [], ◌∷◌, ◌++◌, Contains, IsSome}
 use Rattle.std.specs.declared.option.Option.TheVariants.{Some, None}
 use Rattle.loda_semantics.specs.declared.kinds.Pair.{Pair}
 use Rattle.text_parts.specs.Names.{IsName}
 use Rattle.program_store.specs.Store.{Store, programs_of, checked_at}
+use Rattle.seq_calls.specs.declared.outcomes.NodeRun.{NodeRun}
 use Rattle.seq_calls.specs.Frames.{pair}
 use Rattle.demand_table.specs.declared.entry.Entry.{Entry}
 use Rattle.demand_table.specs.declared.gathering.Gathered.{Gathered}
@@ -38,6 +39,12 @@ pub record AreLiveRuns (s : Store) (w : Slots) (callers : Index) (Listed : Pair 
 -- what was gathered are live runs of the store
 abbrev pub IsGathered : Store → Folders → Gathered → Type 0
 IsGathered s folders g = AreLiveRuns s (slots_of folders g.work) g.callers (Contains g.pairs.items) g.stand
+
+-- all frames of a run are put in, or the last alone, where all that it calls stands already
+abbrev pub IsFresh : Slots → List NodeRun → List NodeRun → Type 0
+IsFresh w all fresh =
+    (fresh ≡ all)
+    ⊎ ((front : List NodeRun) × (own : NodeRun) × (all ≡ front ++ own ∷ []) × (fresh ≡ own ∷ []) × ((to : Pair) → Contains own.calls to → IsSome (w to).entry))
 
 -- the run of a pair was gathered
 abbrev pub HasRunAt : Folders → Gathered → Pair → Type 0

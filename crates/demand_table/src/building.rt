@@ -41,8 +41,8 @@ pub fn copy_store(alloc: Global, store: &Store) -> Result<Undrawn, AllocError>
                 checked: published.checked,
                 nodes: Nodes::of(Vec::new(alloc)),
             };
-            folders = folders.put(name, folder)?;
-            programs = programs.put(name, published.copy()?)?;
+            folders = folders.with(name, folder)?;
+            programs = programs.with(name, published.copy()?)?;
         }
         last = name;
     }
@@ -68,7 +68,7 @@ pub fn drawn(
     let mut unsettled = Vec::new(alloc);
     let waiting = forget_all(alloc, &known, &mut work, &gathered.pairs, &mut unsettled)?;
     settle_all(alloc, &known, &mut work, &unsettled, waiting)?;
-    let next = written(alloc, folders, &work)?;
+    let next = written(alloc, folders, work)?;
     Ok(Parts {
         folders: next,
         callers: gathered.callers,

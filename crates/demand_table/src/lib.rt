@@ -30,6 +30,7 @@ mod replacing;
 mod settling;
 mod slot;
 mod slots;
+mod standing;
 mod step;
 mod tables;
 mod upward;

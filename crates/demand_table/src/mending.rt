@@ -15,6 +15,7 @@ use crate::known;
 use crate::raising::raise_all;
 use crate::slot::Slot;
 use crate::slots::{load, open, store};
+use crate::standing::stands;
 use crate::work::Work;
 use loda_semantics::Pair;
 use seq_calls::NodeRun;
@@ -74,6 +75,9 @@ pub fn clear(
 fn put(alloc: Global, known: &Known<'_>, work: &mut Work, run: &NodeRun) -> Result<bool, AllocError>
     ensures { IfOk result (IsPlaced (slots_of known.now.pages.now work.old) (slots_of known.now.pages.now work.new) run.now) }
 {
+    if stands(known, work, &run.pair) {
+        return Ok(false);
+    }
     let slot = load(alloc, known, work, &run.pair)?;
     if slot.entry.is_some() {
         store(alloc, known, work, &run.pair, slot)?;

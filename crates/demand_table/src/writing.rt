@@ -1,6 +1,6 @@
 //! Slots as nodes.
 
-ghost use Rattle.std.specs.Prelude.{◌≡◌, ℕ, ℤ, IfOk, OnOk, IsSome};
+ghost use Rattle.std.specs.Prelude.{◌≡◌, ℕ, ℤ, IfOk, IsSome};
 ghost use Rattle.loda_semantics.specs.declared.kinds.Pair.{Pair};
 ghost use Rattle.text_parts.specs.Names.{IsName};
 ghost use Rattle.demand_table.specs.Drawn.{with_range};
@@ -10,7 +10,6 @@ ghost use Rattle.demand_table.specs.Written.{nodes_from};
 ghost use Rattle.demand_table.specs.Ascending.{Ascends, AllAscend};
 ghost use Rattle.demand_table.specs.Filed.{IsFiled, IsWrittenDown};
 
-use crate::entry::copied;
 use crate::holding::Known;
 use crate::node::{Folder, Node, Nodes};
 use crate::range::Range;
@@ -23,20 +22,24 @@ use std::collections::BTreeMap;
 use version_pages::Pages;
 
 // The nodes of the slots that have a run, in order.
-fn listed(alloc: Global, slots: &BTreeMap<Num, Slot>) -> Result<Vec<Node>, AllocError>
-    ensures { IfOk result (λ nodes. nodes.items ≡ nodes_from slots.now.entries) }
+fn listed(alloc: Global, slots: BTreeMap<Num, Slot>) -> Result<Vec<Node>, AllocError>
+    ensures { IfOk result (λ nodes. nodes.items ≡ nodes_from slots.entries) }
 {
     let mut nodes = Vec::new(alloc);
     for (arg, slot) in slots {
-        if let Some(entry) = &slot.entry {
-            let calls = copied(alloc, &entry.calls)?;
+        let Slot {
+            callers,
+            entry,
+            total,
+        } = slot;
+        if let Some(entry) = entry {
             nodes.push(Node {
-                arg: *arg,
+                arg,
                 value: entry.value,
                 own: entry.own,
-                total: slot.total.unwrap_or(0),
-                calls,
-                callers: slot.callers,
+                total: total.unwrap_or(0),
+                calls: entry.calls,
+                callers,
             })?;
         }
     }
@@ -44,8 +47,8 @@ fn listed(alloc: Global, slots: &BTreeMap<Num, Slot>) -> Result<Vec<Node>, Alloc
 }
 
 /// The nodes of one name's slots, in ascending order of their arguments.
-pub fn nodes_of(alloc: Global, slots: &BTreeMap<Num, Slot>) -> Result<Nodes, AllocError>
-    ensures nodes { IfOk result (λ nodes. (x : ℤ) → node_in nodes x ≡ node_from (the_pair 0 x) (slot_at slots.now x) (slot_at slots.now x).entry) }
+pub fn nodes_of(alloc: Global, slots: BTreeMap<Num, Slot>) -> Result<Nodes, AllocError>
+    ensures nodes { IfOk result (λ nodes. (x : ℤ) → node_in nodes x ≡ node_from (the_pair 0 x) (slot_at slots x) (slot_at slots x).entry) }
     ensures ascend { IfOk result Ascends }
 {
     let _len = slots.len();
@@ -56,19 +59,19 @@ pub fn nodes_of(alloc: Global, slots: &BTreeMap<Num, Slot>) -> Result<Nodes, All
 // Puts the nodes of a name's slots into its folder, if it has one.
 fn write_name(
     alloc: Global,
-    folders: &mut Pages<Folder>,
+    folders: Pages<Folder>,
     name: u32,
-    slots: &BTreeMap<Num, Slot>,
-) -> Result<(), AllocError>
-    ensures { OnOk result (IsFiled folders.old folders.new name slots.now) }
+    slots: BTreeMap<Num, Slot>,
+) -> Result<Pages<Folder>, AllocError>
+    ensures { IfOk result (λ next. IsFiled folders next name slots) }
 {
     let _first = folders.get(1);
     if name < 1 || name > 999_999 {
-        return Ok(());
+        return Ok(folders);
     }
     let (first, checked) = match folders.get(name) {
         Some(folder) => (folder.first, folder.checked),
-        None => return Ok(()),
+        None => return Ok(folders),
     };
     let nodes = nodes_of(alloc, slots)?;
     let folder = Folder {
@@ -76,23 +79,22 @@ fn write_name(
         checked,
         nodes,
     };
-    let next = folders.put(name, folder)?;
-    *folders = next;
-    Ok(())
+    let next = folders.with(name, folder)?;
+    Ok(next)
 }
 
 /// The folders with the nodes of the names that were opened.
 pub fn written(
     alloc: Global,
     folders: &Pages<Folder>,
-    work: &Work,
+    work: Work,
 ) -> Result<Pages<Folder>, AllocError>
-    ensures { IfOk result (λ next. IsWrittenDown folders.now next work.now) }
+    ensures { IfOk result (λ next. IsWrittenDown folders.now next work) }
 {
     let mut next = folders.share()?;
     let _len = work.opened.len();
-    for (name, slots) in &work.opened {
-        write_name(alloc, &mut next, *name, slots)?;
+    for (name, slots) in work.opened {
+        next = write_name(alloc, next, name, slots)?;
     }
     Ok(next)
 }
@@ -111,13 +113,13 @@ pub fn filed(
     ensures ascend { IfOk result (λ next. AllAscend known.now.pages.now → AllAscend next) }
 {
     let slots = take_name(alloc, known, &mut work, name)?;
-    let nodes = nodes_of(alloc, &slots)?;
-    let rest = written(alloc, known.pages, &work)?;
+    let nodes = nodes_of(alloc, slots)?;
+    let rest = written(alloc, known.pages, work)?;
     let folder = Folder {
         first: range.first,
         checked: range.checked,
         nodes,
     };
-    let next = rest.put(name, folder)?;
+    let next = rest.with(name, folder)?;
     Ok(next)
 }

@@ -5,6 +5,8 @@ mod comparing;
 mod dossier;
 mod finding;
 mod gathering;
+#[cfg(test)]
+mod mended_tests;
 mod snapshot;
 #[cfg(test)]
 mod tests;

@@ -55,7 +55,7 @@ struct Row {
     next: &'static str,
 }
 
-const LIMIT: u64 = 100_000;
+pub const LIMIT: u64 = 100_000;
 
 const TERMS: &str = "A000290 ,0,1,4,9,16,25,36,49,64,81,\nA016742 ,0,4,16,36,64,100,144,196,\n";
 
@@ -93,7 +93,7 @@ const ROWS: [Row; 4] = [
     },
 ];
 
-fn shelf_of(alloc: Global, text: &str) -> Result<MemoryShelf, AllocError> {
+pub fn shelf_of(alloc: Global, text: &str) -> Result<MemoryShelf, AllocError> {
     let mut files = Vec::new(alloc);
     let bytes = Vec::from_slice(alloc, text.as_bytes())?;
     files.push(File::of(String::from_str(alloc, "t")?, bytes))?;

@@ -14,7 +14,7 @@ use row::Row;
 use std::alloc::{AllocError, Global};
 use std::marker::Model;
 use std::sync::Arc;
-use table::{Table, next_after, value_at, with_value};
+use table::{Table, into_with_value, next_after, value_at, with_value};
 
 /// A map from names, which are the numbers from 1 to 999,999, to values.
 ///
@@ -78,6 +78,21 @@ impl<T: Drop> Pages<T> {
     {
         let table = with_value(&self.table, name, value)?;
         let table = Arc::new(self.table.allocator(), table)?;
+        Ok(Self { table })
+    }
+
+    /// This version with this value at this name. This version is given up for it: the page and the upper level that no
+    /// other version shares are written in place, and the others are copied first. All other versions stay as they are.
+    pub fn with(self, name: u32, value: T) -> Result<Self, AllocError>
+        requires { IsName name }
+        ensures { IfOk result (λ next. next ≡ map.insert self name value) }
+    {
+        let alloc = self.table.allocator();
+        let table = match Arc::try_unwrap(self.table) {
+            Ok(table) => into_with_value(table, name, value)?,
+            Err(shared) => with_value(&shared, name, value)?,
+        };
+        let table = Arc::new(alloc, table)?;
         Ok(Self { table })
     }
 

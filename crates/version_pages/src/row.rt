@@ -84,6 +84,56 @@ impl<X: Drop> Row<X> {
     }
 }
 
+impl<X: Drop> Row<X> {
+    /// This row with this value at this place, in the memory that the row had.
+    pub fn into_with(self, at: usize, value: X) -> Result<Self, AllocError>
+        requires { at < 1000 }
+        ensures here { IfOk result (λ row. place row at ≡ Some value) }
+        ensures others { IfOk result (λ row. (k : ℕ) → k ≢ at → place row k ≡ place self k) }
+        ensures bound { IfOk result (λ row. length row ≤ 1000) }
+    {
+        let alloc = self.allocator();
+        let mut places = filled(self.places, at + 1)?;
+        places[at] = Some(Arc::new(alloc, value)?);
+        Ok(Self { places })
+    }
+
+    /// Takes what a place holds out of this row.
+    pub fn take(&mut self, at: usize) -> Option<Arc<X>>
+        ensures taken { option_map arc_value result ≡ place self.old at }
+        ensures others { (k : ℕ) → k ≢ at → place self.new k ≡ place self.old k }
+    {
+        taken(&mut self.places, at)
+    }
+}
+
+// Takes what a place holds out.
+fn taken<X: Drop>(places: &mut Vec<Option<Arc<X>>>, at: usize) -> Option<Arc<X>>
+    ensures taken { option_map arc_value result ≡ place (held places.old.items) at }
+    ensures others { (k : ℕ) → k ≢ at → place (held places.new.items) k ≡ place (held places.old.items) k }
+    ensures len { length places.new.items ≡ length places.old.items }
+{
+    if at >= places.len() {
+        return None;
+    }
+    places[at].take()
+}
+
+// The places, and behind them empty ones up to at least `least`.
+fn filled<X: Drop>(
+    mut places: Vec<Option<Arc<X>>>,
+    least: usize,
+) -> Result<Vec<Option<Arc<X>>>, AllocError>
+    ensures enough { IfOk result (λ all. least ≤ vec_len all) }
+    ensures bound { IfOk result (λ all. length places.items ≤ 1000 → least ≤ 1000 → vec_len all ≤ 1000) }
+    ensures same { IfOk result (λ all. (k : ℕ) → place (held all.items) k ≡ place (held places.items) k) }
+{
+    'fill: for _filled in places.len()..least {
+        places.push(None)?;
+    }
+    Ok(places)
+}
+
 // The places, each sharing its value, and behind them empty ones up to at least `least`.
 fn copied<X: Drop>(
     alloc: Global,

@@ -1,14 +1,16 @@
 //! A table of pages: what stands at a name, and the table with one value more.
 
 ghost use Rattle.std.specs.Prelude.{◌≡◌, ◌≢◌, ℕ, ◌+◌, ◌/◌, ◌%◌, ◌<◌, ◌≤◌, length, IfOk, IfSome, IfNone, IsSome};
-ghost use Rattle.std.specs.Option.{option_copied};
+ghost use Rattle.std.specs.Option.{option_and_then, option_copied, option_map};
+ghost use Rattle.std.specs.Arc.{arc_value};
 ghost use Rattle.std.specs.FinMap as map;
 ghost use Rattle.text_parts.specs.Names.{IsName};
 ghost use Rattle.version_pages.specs.Names.{HasNoneAbove, IsNextName};
 ghost use Rattle.version_pages.specs.Table.{place, on_page, at_name, map_of};
 
 use crate::row::{PLACES, Row};
-use std::alloc::AllocError;
+use std::alloc::{AllocError, Global};
+use std::sync::Arc;
 
 /// Up to 1,000 pages.
 pub type Table<T> = Row<Row<T>>;
@@ -70,6 +72,45 @@ fn page_with<T: Drop>(table: &Table<T>, name: u32, value: T) -> Result<Row<T>, A
     match table.get(page_of(name)) {
         Some(page) => page.with(place_of(name), value),
         None => Row::new(table.allocator()).with(place_of(name), value),
+    }
+}
+
+/// This table with this value at this name. What no other table shares is written in place.
+pub fn into_with_value<T: Drop>(
+    table: Table<T>,
+    name: u32,
+    value: T,
+) -> Result<Table<T>, AllocError>
+    requires { IsName name }
+    ensures map { IfOk result (λ new. map_of new ≡ map.insert (map_of table) name value) }
+    ensures bound { IfOk result (λ new. length new ≤ 1000) }
+    ensures zeroth { IfOk result (λ new. at_name new 0 ≡ at_name table 0) }
+{
+    let mut rest = table;
+    let alloc = rest.allocator();
+    let at = page_of(name);
+    let taken = rest.take(at);
+    let page = into_page_with(alloc, taken, name, value)?;
+    let new = rest.into_with(at, page)?;
+    Ok(new)
+}
+
+// The page that was taken out, with this value at the name. It is copied only where another table shares it.
+fn into_page_with<T: Drop>(
+    alloc: Global,
+    taken: Option<Arc<Row<T>>>,
+    name: u32,
+    value: T,
+) -> Result<Row<T>, AllocError>
+    ensures here { IfOk result (λ page. place page (name % 1000) ≡ Some value) }
+    ensures others { IfOk result (λ page. (k : ℕ) → k ≢ name % 1000 → place page k ≡ option_and_then (λ row. place row k) (option_map arc_value taken)) }
+{
+    match taken {
+        Some(held) => match Arc::try_unwrap(held) {
+            Ok(page) => page.into_with(place_of(name), value),
+            Err(shared) => shared.with(place_of(name), value),
+        },
+        None => Row::new(alloc).with(place_of(name), value),
     }
 }
 

@@ -57,9 +57,34 @@ fn versions(rt: &impl Abort, alloc: Global) -> Result<Vec<Pages<u32>>, AllocErro
     Ok(versions)
 }
 
+// The same versions, each shared before the next one is written in its place: the first of two writes finds a page that the shared
+// one has too, and the second one its own.
+fn versions_written_in_place(
+    rt: &impl Abort,
+    alloc: Global,
+) -> Result<Vec<Pages<u32>>, AllocError> {
+    let mut versions = Vec::new(alloc);
+    let mut newest = Pages::empty(alloc)?;
+    for (name, value) in PUTS {
+        assert!(rt; 1 <= name && name <= 999_999);
+        versions.push(newest.share()?)?;
+        newest = newest.with(name, value.wrapping_add(1))?.with(name, value)?;
+    }
+    versions.push(newest)?;
+    Ok(versions)
+}
+
 #[test]
 fn every_version_answers_as_before(rt: HostRuntime) -> Result<(), Fail> {
-    let versions = versions(&rt, rt.alloc())?;
+    let put = versions(&rt, rt.alloc())?;
+    let written = versions_written_in_place(&rt, rt.alloc())?;
+    assert_versions(&rt, &put);
+    assert_versions(&rt, &written);
+    Ok(())
+}
+
+// Each version has what the puts up to it gave.
+fn assert_versions(rt: &impl Abort, versions: &[Pages<u32>]) {
     assert_eq!(rt; versions.len(), 11);
     for (count, version) in versions.iter().enumerate() {
         for name in [
@@ -83,7 +108,6 @@ fn every_version_answers_as_before(rt: HostRuntime) -> Result<(), Fail> {
             "after {count} puts"
         );
     }
-    Ok(())
 }
 
 #[test]

@@ -19,7 +19,8 @@ loop-name-preserved-in_ok-programs-2 c =
     let f : Folder = record { first = pos 0; checked = e.checked; nodes = c.of.result } in
     let there : published_at s name ≡ Some e = sym c.published.ensures.value ∙ ap option_copied c.in-Some-published.is in
     let filed : c.in_ok-folders-2.folders ≡ map.insert c.loop-name.folders name f = search rules in
-    let put : c.in_ok-programs-2.programs ≡ map.insert c.loop-name.programs name e = c.in_ok-programs-2.ensures ∙ ap (map.insert c.loop-name.programs name) c.in_ok-copy.ensures in
+    let copied : c.in_ok-programs-2.programs ≡ map.insert c.loop-name.programs name c.in_ok-copy.field-0 = search rules in
+    let put : c.in_ok-programs-2.programs ≡ map.insert c.loop-name.programs name e = copied ∙ ap (map.insert c.loop-name.programs name) c.in_ok-copy.ensures in
     let more = copied_more s c.loop-name.programs c.loop-name.folders c.loop-name.last name e f c.in-Some.ensures.some.0 there c.in-Some.ensures.least refl refl (c.of.ensures ∙ c.new.ensures.items) c.loop-name.invariant.copied in
     record {
       within = c.in-Some.ensures.named.1;

@@ -16,9 +16,9 @@ returns-clause-gathered c =
     let i = c.args.index in
     let f = c.args.known.now.pages.now in
     let g = c.args.gathered in
-    let are = c.list-nodes.ensures ∙ c.in_ok-run.ensures.nodes ∙ ap (λ x. nodes_of q x (run_name (programs_of s) q x c.args.limit)) c.number_of.ensures ∙ ap (nodes_of q (pos i)) (same_run s c.args.limit fits c.requires.values q i c.requires.checked) in
+    let are = c.list.ensures ∙ c.in_ok-run.ensures.nodes ∙ ap (λ x. nodes_of q x (run_name (programs_of s) q x c.args.limit)) c.number_of.ensures ∙ ap (nodes_of q (pos i)) (same_run s c.args.limit fits c.requires.values q i c.requires.checked) in
     one_more_run s c.args.limit fits c.requires.values q i c.requires.checked (slots_of f g.work) (slots_of f c.put_all.new.work) g.callers c.in_ok-callers.callers g.pairs.items c.put_all.new.pending.items g.stand c.in_ok-stand.stand
-    c.list-nodes.result.now are c.requires.gathered c.in_ok-stand.ensures c.in_ok-callers.ensures.grows c.in_ok-callers.ensures.runs
+    c.list.result.now c.fresh-nodes.result.now are c.fresh-nodes.ensures c.requires.gathered c.in_ok-stand.ensures c.in_ok-callers.ensures.grows c.in_ok-callers.ensures.runs
 
 pub returns-clause-keeps : goal.returns-clause-keeps
 returns-clause-keeps c =
@@ -28,9 +28,9 @@ returns-clause-keeps c =
     let i = c.args.index in
     let f = c.args.known.now.pages.now in
     let g = c.args.gathered in
-    let are = c.list-nodes.ensures ∙ c.in_ok-run.ensures.nodes ∙ ap (λ x. nodes_of q x (run_name (programs_of s) q x c.args.limit)) c.number_of.ensures ∙ ap (nodes_of q (pos i)) (same_run s c.args.limit fits c.requires.values q i c.requires.checked) in
+    let are = c.list.ensures ∙ c.in_ok-run.ensures.nodes ∙ ap (λ x. nodes_of q x (run_name (programs_of s) q x c.args.limit)) c.number_of.ensures ∙ ap (nodes_of q (pos i)) (same_run s c.args.limit fits c.requires.values q i c.requires.checked) in
     keeps_runs s c.args.limit fits c.requires.values q i c.requires.checked (slots_of f g.work) (slots_of f c.put_all.new.work) g.callers c.in_ok-callers.callers g.pairs.items c.put_all.new.pending.items g.stand c.in_ok-stand.stand
-    c.list-nodes.result.now are c.requires.gathered c.in_ok-stand.ensures c.in_ok-callers.ensures.grows c.in_ok-callers.ensures.runs
+    c.list.result.now c.fresh-nodes.result.now are c.fresh-nodes.ensures c.requires.gathered c.in_ok-stand.ensures c.in_ok-callers.ensures.grows c.in_ok-callers.ensures.runs
 
 pub returns-clause-here : goal.returns-clause-here
 returns-clause-here c =
@@ -40,6 +40,6 @@ returns-clause-here c =
     let i = c.args.index in
     let f = c.args.known.now.pages.now in
     let g = c.args.gathered in
-    let are = c.list-nodes.ensures ∙ c.in_ok-run.ensures.nodes ∙ ap (λ x. nodes_of q x (run_name (programs_of s) q x c.args.limit)) c.number_of.ensures ∙ ap (nodes_of q (pos i)) (same_run s c.args.limit fits c.requires.values q i c.requires.checked) in
+    let are = c.list.ensures ∙ c.in_ok-run.ensures.nodes ∙ ap (λ x. nodes_of q x (run_name (programs_of s) q x c.args.limit)) c.number_of.ensures ∙ ap (nodes_of q (pos i)) (same_run s c.args.limit fits c.requires.values q i c.requires.checked) in
     run_there s c.args.limit fits c.requires.values q i c.requires.checked (slots_of f g.work) (slots_of f c.put_all.new.work) g.callers c.in_ok-callers.callers g.pairs.items c.put_all.new.pending.items g.stand c.in_ok-stand.stand
-    c.list-nodes.result.now are c.requires.gathered c.in_ok-stand.ensures c.in_ok-callers.ensures.grows c.in_ok-callers.ensures.runs
+    c.list.result.now c.fresh-nodes.result.now are c.fresh-nodes.ensures c.requires.gathered c.in_ok-stand.ensures c.in_ok-callers.ensures.grows c.in_ok-callers.ensures.runs

@@ -10,6 +10,6 @@ loop-run-preserved c =
     let i = c.loop-run.run-index in
     let run = c.run-item.result in
     let e = runs_upto runs i run c.loop-run-test.true c.run-item.is in
-    subst (λ (l : List NodeRun). HasReached c.args.callers.now c.add_run.new.callers c.add_run.new.met l) (sym e)
-    (reached_more c.args.callers.now c.loop-run.next c.add_run.new.callers c.loop-run.met c.add_run.new.met (take i runs) run c.loop-run.invariant
-    c.in_ok-add_run.ensures.grows c.in_ok-add_run.ensures.met c.in_ok-add_run.ensures.calls)
+    subst (λ (l : List NodeRun). HasReached c.args.callers.now c.in_ok-next-2.next c.add_run.new.met l) (sym e)
+    (reached_more c.args.callers.now c.loop-run.next c.in_ok-next-2.next c.loop-run.met c.add_run.new.met (take i runs) run c.loop-run.invariant
+    c.in_ok-next-2.ensures.grows c.in_ok-next-2.ensures.met c.in_ok-next-2.ensures.calls)

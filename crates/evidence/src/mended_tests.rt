@@ -1,0 +1,349 @@
+//! What tables know of small stores, before and after programs are put in.
+
+ghost use Rattle.std.specs.Prelude.{◌≡◌, ◌<◌};
+ghost use Rattle.oeis_terms.specs.Table.{IsBounded};
+ghost use Rattle.program_store.specs.Store.{IsProposal};
+
+use crate::tests::{LIMIT, shelf_of};
+use crate::{Dossier, Snapshot, gather};
+use checked_numbers::Num;
+use demand_table::{Node, Tables};
+use judge::{CheckError, check_store};
+use loda_semantics::Pair;
+use oeis_terms::{TermTable, read_terms};
+use program_store::{Proposal, Store, parse_candidates, parse_store, print_store};
+use seq_calls::Steps;
+use std::alloc::{AllocError, Global};
+use std::marker::Brand;
+use std::sync::ledger::{Blank, Ledger};
+use std::test::Fail;
+
+/// A pair, and the value, the own steps, all steps and the callers of its node, if it has one.
+struct Told(u32, i128, Option<(i128, u64, u64, u64)>);
+
+// A store, and a proposal for it. What the tables tell before and after it is put in, and which arguments are demanded then.
+struct Row {
+    store: &'static str,
+    candidate: &'static str,
+    old: &'static [Told],
+    new: &'static [Told],
+    demanded: &'static [(u32, &'static [i128])],
+}
+
+const TERMS: &str =
+    "A000290 ,0,1,4,9,16,25,36,49,64,81,\nA001477 ,0,1,2,3,4,5,6,7,\nA016742 ,0,4,16,36,64,100,144,196,\n";
+
+const ROWS: [Row; 4] = [
+    // the square, and then a program that calls it
+    Row {
+        store: "= A000290 10\nmul $0,$0\n",
+        candidate: "? A016742\nmul $0,2\nseq $0,290\n",
+        old: &[
+            Told(290, 9, Some((81, 1, 1, 0))),
+            Told(290, 10, None),
+            Told(16742, 5, None),
+        ],
+        new: &[
+            Told(16742, 5, Some((100, 2, 3, 0))),
+            Told(290, 10, Some((100, 1, 1, 1))),
+            Told(290, 1, Some((1, 1, 1, 0))),
+            Told(290, 11, None),
+        ],
+        demanded: &[(290, &[0, 2, 4, 6, 8, 10, 12, 14]), (16742, &[])],
+    },
+    // the callee takes a step less
+    Row {
+        store: "= A000290 10\nmov $1,$0\nmul $0,$1\n= A016742 8\nmul $0,2\nseq $0,290\n",
+        candidate: "? A000290\nmul $0,$0\n",
+        old: &[
+            Told(16742, 5, Some((100, 2, 4, 0))),
+            Told(290, 10, Some((100, 2, 2, 1))),
+        ],
+        new: &[
+            Told(16742, 5, Some((100, 2, 3, 0))),
+            Told(290, 10, Some((100, 1, 1, 1))),
+        ],
+        demanded: &[(290, &[0, 2, 4, 6, 8, 10, 12, 14]), (16742, &[])],
+    },
+    // the caller calls no more
+    Row {
+        store: "= A000290 10\nmul $0,$0\n= A016742 8\nmul $0,2\nseq $0,290\n",
+        candidate: "? A016742\nmul $0,2\nmul $0,$0\n",
+        old: &[Told(290, 10, Some((100, 1, 1, 1)))],
+        new: &[
+            Told(290, 10, None),
+            Told(290, 8, Some((64, 1, 1, 0))),
+            Told(16742, 5, Some((100, 2, 2, 0))),
+        ],
+        demanded: &[(290, &[]), (16742, &[])],
+    },
+    // the call stands in an iteration that is undone
+    Row {
+        store: "= A000290 10\nmul $0,$0\n",
+        candidate: "? A001477\nmov $1,-1\nlpb $2\nseq $1,290\nsub $2,1\nlpe\n",
+        old: &[Told(290, -1, None)],
+        new: &[Told(290, -1, Some((1, 1, 1, 8)))],
+        demanded: &[(290, &[-1]), (1477, &[])],
+    },
+];
+
+// The tables of a sound store.
+fn tables_of(alloc: Global, store: &Store, terms: &TermTable) -> Result<Option<Tables>, AllocError>
+    requires bounded { IsBounded terms.now }
+{
+    match check_store(alloc, store, terms, LIMIT) {
+        Ok(()) => {
+            let tables = Tables::build(alloc, store, LIMIT)?;
+            Ok(Some(tables))
+        }
+        Err(CheckError::Memory) => Err(AllocError),
+        Err(CheckError::Unsound(_)) => Ok(None),
+    }
+}
+
+// What is gathered of a proposal in the tables of a sound store.
+fn judged<L: Ledger>(
+    alloc: Global,
+    blank: Blank,
+    tables: Tables,
+    terms: &TermTable,
+    proposal: Proposal,
+) -> Result<Option<Dossier>, AllocError>
+    requires name { blank.name ≡ L.name }
+    requires parts { blank.parts ≡ L.parts }
+    requires some { 0 < L.parts }
+    requires bounded { IsBounded terms.now }
+    requires proposal { IsProposal proposal }
+{
+    match check_store(alloc, &tables, terms, LIMIT) {
+        Ok(()) => {}
+        Err(CheckError::Memory) => return Err(AllocError),
+        Err(CheckError::Unsound(_)) => return Ok(None),
+    }
+    let snapshot = Snapshot::of(tables, 0, 0);
+    let (book, share) = blank.open::<L>();
+    let mut steps = Steps::start(book, share);
+    let dossier = gather(
+        alloc,
+        &snapshot,
+        terms,
+        LIMIT,
+        0,
+        Some(proposal),
+        &mut steps,
+    )?;
+    Ok(Some(dossier))
+}
+
+fn judged_alone(
+    alloc: Global,
+    tables: Tables,
+    terms: &TermTable,
+    proposal: Proposal,
+) -> Result<Option<Dossier>, AllocError>
+    requires bounded { IsBounded terms.now }
+    requires proposal { IsProposal proposal }
+{
+    judged::<Brand>(alloc, Blank::new(1), tables, terms, proposal)
+}
+
+// Whether the tables tell this of a pair.
+fn tells(tables: &Tables, want: &Told) -> bool {
+    let Some(arg) = Num::new(want.1) else {
+        return false;
+    };
+    match (tables.node(want.0, &arg), want.2) {
+        (None, None) => true,
+        (Some(node), Some((value, own, total, callers))) => {
+            node.arg == arg
+                && node.value.get() == value
+                && node.own == own
+                && node.total == total
+                && node.callers == callers
+        }
+        _ => false,
+    }
+}
+
+fn tells_all(tables: &Tables, wants: &[Told]) -> bool {
+    for want in wants {
+        if !tells(tables, want) {
+            return false;
+        }
+    }
+    true
+}
+
+fn are_numbers(list: &[Num], want: &[i128]) -> bool {
+    if list.len() != want.len() {
+        return false;
+    }
+    for at in 0..list.len() {
+        if list[at].get() != want[at] {
+            return false;
+        }
+    }
+    true
+}
+
+// Whether just these arguments of each name are demanded.
+fn demands(alloc: Global, tables: &Tables, wants: &[(u32, &[i128])]) -> Result<bool, AllocError> {
+    for want in wants {
+        let list = tables.demanded(alloc, want.0)?;
+        if !are_numbers(&list, want.1) {
+            return Ok(false);
+        }
+    }
+    Ok(true)
+}
+
+#[test]
+fn nodes_and_demanded_arguments(rt: HostRuntime) -> Result<(), Fail> {
+    let alloc = rt.alloc();
+    let terms = read_terms(alloc, &mut shelf_of(alloc, TERMS)?, "t")?;
+    for row in &ROWS {
+        let store = parse_store(alloc, row.store.as_bytes())?;
+        let candidates = parse_candidates(alloc, row.candidate.as_bytes())?;
+        assert!(rt; candidates.len() == 1);
+        let proposal = candidates.at(0).copy()?;
+        let tables = tables_of(alloc, &store, &terms)?.ok_or("unsound")?;
+        let dossier = judged_alone(alloc, tables, &terms, proposal)?.ok_or("unsound")?;
+        let shared = dossier.snapshot().share()?;
+        let next = dossier.into_parts().next.ok_or("refused")?;
+        assert!(rt; tells_all(&next, row.new), "after {}", row.candidate);
+        assert!(rt;
+            demands(alloc, &next, row.demanded)?,
+            "demanded after {}",
+            row.candidate
+        );
+        assert!(rt;
+            tells_all(shared.tables(), row.old),
+            "before {}",
+            row.candidate
+        );
+    }
+    Ok(())
+}
+
+const SUMS: &str =
+    "A000001 ,1,2,3,4,5,6,7,8,\nA000002 ,2,3,4,5,6,7,8,9,\nA000003 ,3,4,5,6,7,8,9,10,\nA000004 ,2,4,6,8,10,12,14,16,\nA000005 ,4,5,6,7,8,9,10,11,\n";
+
+// Put in one after the other, they call in chains and diamonds, twice at one argument and at arguments that others call too, and
+// later no more.
+const PUT_IN: [&str; 13] = [
+    "? A000001\nmov $1,1\nmov $1,1\nmov $1,1\nadd $0,1\n",
+    "? A000002\nseq $0,1\nseq $0,1\n",
+    "? A000003\nmov $1,$0\nseq $1,1\nseq $0,2\nmov $1,0\nadd $0,1\n",
+    "? A000004\nmov $1,$0\nseq $1,1\nseq $0,1\nadd $0,$1\n",
+    "? A000005\nmov $1,1\nseq $0,2\nseq $0,2\n",
+    "? A000001\nmov $1,1\nadd $0,1\n",
+    "? A000003\nadd $0,1\nseq $0,2\n",
+    "? A000005\nseq $0,3\nseq $0,1\n",
+    "? A000004\nseq $0,1\nmul $0,2\n",
+    "? A000002\nadd $0,1\nseq $0,1\n",
+    "? A000005\nadd $0,4\n",
+    "? A000001\nadd $0,1\n",
+    "? A000003\nadd $0,3\n",
+];
+
+fn same_pairs(one: &[Pair], other: &[Pair]) -> bool {
+    if one.len() != other.len() {
+        return false;
+    }
+    for at in 0..one.len() {
+        if one[at].name != other[at].name || one[at].arg != other[at].arg {
+            return false;
+        }
+    }
+    true
+}
+
+fn same_node(one: &Node, other: &Node) -> bool {
+    one.arg == other.arg
+        && one.value == other.value
+        && one.own == other.own
+        && one.total == other.total
+        && one.callers == other.callers
+        && same_pairs(one.calls.list(), other.calls.list())
+}
+
+fn same_at(one: &Tables, other: &Tables, name: u32, arg: &Num) -> bool {
+    match (one.node(name, arg), other.node(name, arg)) {
+        (None, None) => true,
+        (Some(a), Some(b)) => same_node(a, b),
+        _ => false,
+    }
+}
+
+// Whether two tables tell the same of a name at the arguments from -1 to 20.
+fn same_of(one: &Tables, other: &Tables, name: u32) -> bool {
+    for index in 0..22u32 {
+        match Num::new(i128::from(index) - 1) {
+            Some(arg) if same_at(one, other, name, &arg) => {}
+            _ => return false,
+        }
+    }
+    true
+}
+
+// The tables of the same store, from nothing.
+fn rebuilt(alloc: Global, tables: &Tables, terms: &TermTable) -> Result<Option<Tables>, AllocError>
+    requires bounded { IsBounded terms.now }
+{
+    let mut text = Vec::new(alloc);
+    print_store(tables, &mut text)?;
+    match parse_store(alloc, &text) {
+        Ok(store) => tables_of(alloc, &store, terms),
+        Err(_) => Ok(None),
+    }
+}
+
+// Whether the tables tell what those tell that are built of the same store.
+fn are_as_built(alloc: Global, tables: &Tables, terms: &TermTable) -> Result<bool, AllocError>
+    requires bounded { IsBounded terms.now }
+{
+    let Some(fresh) = rebuilt(alloc, tables, terms)? else {
+        return Ok(false);
+    };
+    for name in 1..=6 {
+        if !same_of(tables, &fresh, name) {
+            return Ok(false);
+        }
+    }
+    Ok(true)
+}
+
+// The tables with the one candidate of a text put in, if it is accepted.
+fn after_put(
+    alloc: Global,
+    tables: Tables,
+    terms: &TermTable,
+    text: &str,
+) -> Result<Option<Tables>, AllocError>
+    requires bounded { IsBounded terms.now }
+{
+    let Ok(candidates) = parse_candidates(alloc, text.as_bytes()) else {
+        return Ok(None);
+    };
+    if candidates.len() != 1 {
+        return Ok(None);
+    }
+    let proposal = candidates.at(0).copy()?;
+    match judged_alone(alloc, tables, terms, proposal)? {
+        Some(dossier) => Ok(dossier.into_parts().next),
+        None => Ok(None),
+    }
+}
+
+#[test]
+fn mended_tables_are_as_built(rt: HostRuntime) -> Result<(), Fail> {
+    let alloc = rt.alloc();
+    let terms = read_terms(alloc, &mut shelf_of(alloc, SUMS)?, "t")?;
+    let empty = parse_store(alloc, b"")?;
+    let mut tables = tables_of(alloc, &empty, &terms)?.ok_or("unsound")?;
+    for text in PUT_IN {
+        tables = after_put(alloc, tables, &terms, text)?.ok_or("refused")?;
+        assert!(rt; are_as_built(alloc, &tables, &terms)?, "after {text}");
+    }
+    Ok(())
+}
