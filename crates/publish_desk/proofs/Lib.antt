@@ -1,4 +1,7 @@
--- Lists read from their ends.
+-- Lists: lists read from their ends. Room: a legal journal has no more entries than there are jobs. Places: the places of jobs and of
+-- versions after one more entry. Publish, Whole: what holds of a desk after a dossier's entry. OneJournal: one worker's journal is one.
+-- Texts: the parts of a report. Opening: a desk that opens, and missing jobs. Fitting: which dossiers fit. Crossing: a desk may be moved
+-- to another thread and be shared.
 pub mod Lists
 -- A legal journal has no more entries than there are jobs.
 pub mod Room
@@ -16,3 +19,5 @@ pub mod Whole
 pub mod Opening
 -- Which dossiers fit a desk: those of its present store, and those that fitted it before.
 pub mod Fitting
+-- A desk may be moved to another thread and be shared by threads.
+pub mod Crossing

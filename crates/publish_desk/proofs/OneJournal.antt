@@ -1,28 +1,33 @@
 -- One worker's journal is one.
-use Rattle.std.proofs.Common.{ℕ, suc, ◌+◌, ◌≡◌, refl, sym, ap, subst, ◌∙◌, arith, inl, inr, List, [], ◌∷◌, length}
-use Rattle.std.specs.Prelude.{◌⊎◌, slice_get}
-use Rattle.std.specs.declared.option.Option.{Option}
+use Rattle.std.proofs.Common.{ℕ, ◌≡◌, refl, sym, ap, subst, ◌∙◌, arith, List, [], ◌∷◌, length}
 use Rattle.std.specs.declared.option.Option.TheVariants.{Some, None}
 use Rattle.program_store.specs.declared.published.Proposal.{Proposal}
 use Rattle.program_store.specs.Store.{Store}
 use Rattle.judge.specs.declared.answer.Answer.{Answer}
+use Rattle.oeis_terms.specs.Table.{Table, row_of}
 use Rattle.judge.specs.Passed.{Terms}
 use Rattle.judge.specs.Judged.{IsJudged}
 use Rattle.judge.proofs.OneAnswer.{one_answer}
 use Rattle.evidence.specs.declared.finding.Finding.{Finding}
 use Rattle.evidence.specs.declared.finding.Finding.TheVariants.{Nothing, Judged}
 use Rattle.evidence.specs.Findings.{IsTrueFinding}
+use Rattle.proposer.specs.Short.{short}
+use Rattle.proposer.specs.Proposed.{first_of_list}
+use Rattle.proposer.proofs.Chosen.{one_first}
 use Rattle.publish_desk.specs.declared.charter.Source.{Source}
-use Rattle.publish_desk.specs.declared.charter.Source.TheVariants.{Listed}
+use Rattle.publish_desk.specs.declared.charter.Source.TheVariants.{Listed, Seeded}
 use Rattle.publish_desk.specs.declared.entry.Entry.{Entry}
-use Rattle.publish_desk.specs.History.{OriginRule, IsSingle, replay, version_of, store_at, proposal_of, IsLegal, IsInOrder}
+use Rattle.publish_desk.specs.History.{IsSingle, replay, version_of, store_at, proposal_of}
 use Rattle.publish_desk.specs.Desk.{IsFrom}
 use Rattle.publish_desk.specs.OneJournal.{IsOneJournal}
 
 -- ---- each job has one proposal in each store
 
-pub one_proposal : (terms : Terms) (limit : ℕ) (source : Source) → IsSingle (IsFrom terms limit source)
-one_proposal terms limit (Listed candidates) job s a b h k = h ∙ sym k
+pub one_proposal : (table : Table) (limit : ℕ) (source : Source) → IsSingle (IsFrom table limit source)
+one_proposal table limit (Listed candidates) job s a b h k = h ∙ sym k
+one_proposal table limit (Seeded seed) job s a b h k =
+    let list = short s table limit seed job in
+    one_first s (row_of table) limit (first_of_list list) list a b h k
 
 -- ---- and one finding
 
@@ -42,14 +47,14 @@ one_entry a b i j k =
     ∙ (ap (λ (n : ℕ). record { job = b.job; base = n; finding = a.finding }) j
     ∙ ap (λ (f : Finding). record { job = b.job; base = b.base; finding = f }) k)
 
-pub one : (opening : Store) (terms : Terms) (limit : ℕ) (source : Source) (jobs : ℕ) → IsOneJournal opening terms limit source jobs
-one opening terms limit source jobs [] [] size h k i j = refl
-one opening terms limit source jobs [] (b ∷ bs) size h k i j = absurd (omega (arith, size))
-one opening terms limit source jobs (a ∷ es) [] size h k i j = absurd (omega (arith, size))
-one opening terms limit source jobs (a ∷ es) (b ∷ bs) size h k i j = joined (one opening terms limit source jobs es bs (omega (arith, size)) h.0 k.0 i.0 j.0)
+pub one : (opening : Store) (table : Table) (limit : ℕ) (source : Source) (jobs : ℕ) → IsOneJournal opening table limit source jobs
+one opening table limit source jobs [] [] size h k i j = refl
+one opening table limit source jobs [] (b ∷ bs) size h k i j = absurd (omega (arith, size))
+one opening table limit source jobs (a ∷ es) [] size h k i j = absurd (omega (arith, size))
+one opening table limit source jobs (a ∷ es) (b ∷ bs) size h k i j = joined (one opening table limit source jobs es bs (omega (arith, size)) h.0 k.0 i.0 j.0)
   where
     joined : es ≡ bs → a ∷ es ≡ b ∷ bs
-    joined rest = ap (λ (l : List Entry). a ∷ l) rest ∙ ap (λ (e : Entry). e ∷ bs) (one_entry a b job base (one_finding (replay opening bs) terms limit a.finding b.finding proposal (subst (λ (l : List Entry). IsTrueFinding (replay opening l) terms limit a.finding) rest h.1.finding) k.1.finding))
+    joined rest = ap (λ (l : List Entry). a ∷ l) rest ∙ ap (λ (e : Entry). e ∷ bs) (one_entry a b job base (one_finding (replay opening bs) (row_of table) limit a.finding b.finding proposal (subst (λ (l : List Entry). IsTrueFinding (replay opening l) (row_of table) limit a.finding) rest h.1.finding) k.1.finding))
       where
         job : a.job ≡ b.job
         job = i.1 ∙ ap length rest ∙ sym j.1
@@ -59,8 +64,8 @@ one opening terms limit source jobs (a ∷ es) (b ∷ bs) size h k i j = joined 
 
         proposal : proposal_of a.finding ≡ proposal_of b.finding
         proposal =
-            one_proposal terms limit source b.job (store_at opening bs b.base) (proposal_of a.finding) (proposal_of b.finding)
-            (subst (λ (n : ℕ). IsFrom terms limit source n (store_at opening bs b.base) (proposal_of a.finding)) job
-            (subst (λ (v : ℕ). IsFrom terms limit source a.job (store_at opening bs v) (proposal_of a.finding)) base
-            (subst (λ (l : List Entry). IsFrom terms limit source a.job (store_at opening l a.base) (proposal_of a.finding)) rest h.1.proposed)))
+            one_proposal table limit source b.job (store_at opening bs b.base) (proposal_of a.finding) (proposal_of b.finding)
+            (subst (λ (n : ℕ). IsFrom table limit source n (store_at opening bs b.base) (proposal_of a.finding)) job
+            (subst (λ (v : ℕ). IsFrom table limit source a.job (store_at opening bs v) (proposal_of a.finding)) base
+            (subst (λ (l : List Entry). IsFrom table limit source a.job (store_at opening l a.base) (proposal_of a.finding)) rest h.1.proposed)))
             k.1.proposed

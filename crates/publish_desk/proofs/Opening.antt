@@ -1,11 +1,9 @@
 -- A desk that opens, and the jobs that are missing.
-use Rattle.std.proofs.Common.{ℕ, zero, suc, ◌+◌, ◌<◌, ◌≤◌, ◌≡◌, refl, sym, ap, subst, ◌∙◌, arith, ℤ, pos, inl, inr, List, [], length, get_or}
+use Rattle.std.proofs.Common.{ℕ, zero, suc, ◌+◌, ◌<◌, ◌≡◌, refl, sym, ap, subst, ◌∙◌, arith, inl, inr, List, [], length, get_or}
 use Rattle.std.specs.Prelude.{◌⊎◌, slice_get}
 use Rattle.std.specs.declared.option.Option.TheVariants.{Some}
 use Rattle.std.proofs.lemmas.Option.{slice_get_within, get_or_from_slice_get, slice_get-get_or}
-use Rattle.seq_calls.specs.Values.{outcome}
-use Rattle.program_store.specs.Store.{Store, published_at, programs_of}
-use Rattle.judge.specs.Passed.{Terms}
+use Rattle.program_store.specs.Store.{Store}
 use Rattle.judge.specs.Sound.{Sound}
 use Rattle.publish_desk.specs.declared.entry.Entry.{Entry}
 use Rattle.publish_desk.specs.declared.charter.Charter.{Charter}

@@ -1,11 +1,11 @@
 -- A dossier that is published keeps what holds of a desk.
-use Rattle.std.proofs.Common.{ℕ, zero, suc, ◌+◌, ◌-◌, ◌<◌, ◌≤◌, ◌≡◌, ◌≢◌, refl, sym, ap, subst, ◌∙◌, arith, List, [], ◌∷◌, ◌++◌, length, eqb, true, false, cond, Bool}
-use Rattle.std.specs.Prelude.{All, reverse}
+use Rattle.std.proofs.Common.{ℕ, ◌+◌, ◌<◌, ◌≤◌, ◌≡◌, ◌≢◌, refl, sym, ap, subst, ◌∙◌, arith, List, [], ◌∷◌, ◌++◌, length, eqb, true, cond, Bool}
+use Rattle.std.specs.Prelude.{reverse}
 use Rattle.std.specs.declared.option.Option.{Option}
 use Rattle.std.specs.declared.option.Option.TheVariants.{Some, None}
 use Rattle.std.proofs.lemmas.List.{length-reverse}
 use Rattle.program_store.specs.declared.published.Proposal.{Proposal}
-use Rattle.program_store.specs.Store.{Store, IsProposal}
+use Rattle.program_store.specs.Store.{Store}
 use Rattle.seq_calls.specs.Demand.{ample}
 use Rattle.judge.specs.declared.answer.Answer.{Answer}
 use Rattle.judge.specs.declared.answer.Answer.TheVariants.{Accepted, Unlisted, Cycle, WrongTerm, BrokenDependant, Costlier, NoGain}
@@ -22,8 +22,8 @@ use Rattle.evidence.specs.Findings.{accepted_count, IsTrueFinding}
 use Rattle.evidence.specs.Dossiers.{Dossier}
 use Rattle.publish_desk.specs.declared.entry.Entry.{Entry}
 use Rattle.publish_desk.specs.declared.charter.Charter.{Charter}
-use Rattle.publish_desk.specs.History.{put_accepted, store_after, rise_of, rise, replay, version_of, store_at, proposal_of, IsLegalAfter, IsLegal, NoLoss, IfAccepted, EntryLosesNothing, IsMissing}
-use Rattle.publish_desk.specs.Desk.{Desk, origin_of, terms_of, history, store_then, decided, IsFitting, IsKept, IsChartered}
+use Rattle.publish_desk.specs.History.{put_accepted, store_after, rise_of, rise, replay, version_of, store_at, IsLegalAfter, IsLegal, NoLoss, IfAccepted, EntryLosesNothing, IsMissing}
+use Rattle.publish_desk.specs.Desk.{Desk, origin_of, terms_of, history, decided, IsFitting, IsKept, IsChartered}
 use Rattle.publish_desk.proofs.Room.{room}
 use Rattle.publish_desk.proofs.Lists.{reverse_push, all_reverse}
 

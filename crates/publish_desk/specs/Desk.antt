@@ -3,35 +3,38 @@ use Rattle.std.specs.Prelude.{ℕ, ◌+◌, ◌<◌, ◌≡◌, ◌≤◌, List,
 use Rattle.std.specs.declared.option.Option.{Option}
 use Rattle.program_store.specs.declared.published.Proposal.{Proposal}
 use Rattle.program_store.specs.Store.{Store}
-use Rattle.oeis_terms.specs.Table.{row_of, IsBounded, IsTable}
+use Rattle.oeis_terms.specs.Table.{Table, row_of, IsBounded, IsTable}
 use Rattle.judge.specs.Passed.{Terms}
 use Rattle.judge.specs.Sound.{Sound}
+use Rattle.proposer.specs.Proposed.{IsProposed}
 use Rattle.evidence.specs.Dossiers.{Dossier}
 use Rattle.evidence.specs.Findings.{IsTrueFinding}
 use Rattle.publish_desk.specs.declared.entry.Entry.{Entry}
 use Rattle.publish_desk.specs.declared.charter.Charter.{Charter}
 use Rattle.publish_desk.specs.declared.charter.Source.{Source}
-use Rattle.publish_desk.specs.declared.charter.Source.TheVariants.{Listed}
+use Rattle.publish_desk.specs.declared.charter.Source.TheVariants.{Listed, Seeded}
 use Rattle.publish_desk.specs.History.{OriginRule, replay, version_of, store_at, store_after, rise, proposal_of, IsLegal, NoLoss, IsMissing, IsDoneAt, MakesVersion}
 use Rattle.publish_desk.specs.declared.verdict.Verdict.{Verdict}
 use Rattle.publish_desk.specs.declared.verdict.Verdict.TheVariants.{Decided, Again, AlreadyDone}
 
--- a source may have so many jobs: of a list, one for each of its members
+-- a source may have so many jobs: of a list, one for each of its members; of a seed, any number
 abbrev pub HasJobs : Source → ℕ → Type 0
 HasJobs (Listed candidates) jobs = jobs ≡ length candidates
+HasJobs (Seeded seed) jobs = Unit {0}
 
 -- the usable terms by name
 abbrev pub terms_of : Charter → Terms
 terms_of c = row_of c.terms
 
 -- Which proposal a source has for a job in a store, for these terms and this limit: of a list, its member at that place, whatever
--- the store.
-abbrev pub IsFrom : Terms → ℕ → Source → ℕ → Store → Option Proposal → Type 0
-IsFrom terms limit (Listed candidates) job s o = o ≡ slice_get candidates job
+-- the store; of a seed, the first of the job's shortlist that is accepted there, else the first, else none.
+abbrev pub IsFrom : Table → ℕ → Source → ℕ → Store → Option Proposal → Type 0
+IsFrom table limit (Listed candidates) job s o = o ≡ slice_get candidates job
+IsFrom table limit (Seeded seed) job s o = IsProposed table limit seed job s o
 
 -- what the charter proposes for each job
 abbrev pub origin_of : Charter → OriginRule
-origin_of c = IsFrom (terms_of c) c.limit c.source
+origin_of c = IsFrom c.terms c.limit c.source
 
 -- what never changes, the entries in the order in which they came, how many were accepted, and the present store
 pub record Desk : Type 0 where

@@ -204,6 +204,16 @@ impl Desk {
         None
     }
 
+    /// The place of a job's entry. `None` exactly where it has none.
+    pub fn place_of(&self, job: u64) -> Option<u64>
+        requires { job < self.now.charter.jobs }
+        ensures some { IfSome result (λ at. IsDoneAt self.now.journal job at) }
+        ensures none { IfNone result (IsMissing self.now.journal job) }
+    {
+        let noted = self.places[job as usize];
+        if noted > 0 { Some(noted - 1) } else { None }
+    }
+
     /// The present tables, version and length of the journal.
     pub fn snapshot(&self) -> Result<evidence::Snapshot, AllocError>
         ensures { IfOk result (λ s. s ≡ record { store = self.now.store; version = self.now.version; length = length self.now.journal }) }

@@ -7,6 +7,8 @@ mod entry;
 pub mod laws;
 mod origin;
 mod report;
+#[cfg(test)]
+mod tests;
 mod verdict;
 
 pub use desk::{Desk, OpenError};

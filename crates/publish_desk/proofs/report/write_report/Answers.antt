@@ -1,4 +1,4 @@
-use Rattle.std.proofs.Common.{sym, ap, subst, ◌≡◌, ◌∙◌, ◌++◌, List, ℕ, length, append_assoc}
+use Rattle.std.proofs.Common.{ap, subst, ◌≡◌, ◌∙◌, ◌++◌, List, ℕ, length, append_assoc}
 use Rattle.std.specs.Prelude.{codes}
 use Rattle.std.proofs.lemmas.Result.{err_from_is_err_and}
 use Rattle.loda_syntax.specs.Answers.{AddsFront}

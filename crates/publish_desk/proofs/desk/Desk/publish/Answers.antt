@@ -1,18 +1,11 @@
-use Rattle.std.proofs.Common.{ℕ, ◌+◌, ◌-◌, ◌<◌, ◌≤◌, ◌≡◌, refl, sym, ap, subst, ◌∙◌, arith, List, [], ◌∷◌, ◌++◌, length, get_or, set}
-use Rattle.std.specs.Prelude.{vec_len}
+use Rattle.std.proofs.Common.{ℕ, ◌-◌, ◌<◌, ◌≡◌, refl, sym, ap, subst, ◌∙◌, arith, get_or}
 use Rattle.std.specs.Arc.{arc_value}
-use Rattle.std.specs.declared.option.Option.{Option}
-use Rattle.std.specs.declared.option.Option.TheVariants.{Some, None}
-use Rattle.program_store.specs.Store.{Store}
-use Rattle.evidence.specs.declared.finding.Finding.{Finding}
-use Rattle.evidence.specs.Findings.{next_store}
 use Rattle.publish_desk.specs.declared.entry.Entry.{Entry}
 use Rattle.publish_desk.specs.Source.{source_of}
-use Rattle.publish_desk.specs.History.{MakesVersion, IsDoneAt, IsMissing, IsPlaceOf, Publishes, ArePlaces, AreMarks}
-use Rattle.publish_desk.specs.Desk.{Desk, decided, IsFitting, IsKept, IsDecidedAt}
+use Rattle.publish_desk.specs.History.{MakesVersion, IsDoneAt, IsMissing, IsPlaceOf, Publishes}
+use Rattle.publish_desk.specs.Desk.{Desk, IsFitting}
 use Rattle.publish_desk.proofs.Places.{place_at, done_at, missing_at, mark_at, shown, same_name}
-use Rattle.publish_desk.proofs.Publish.{room_for, version_bound}
-use Rattle.publish_desk.proofs.Whole.{entry_of, decided_without, decided_with}
+use Rattle.publish_desk.proofs.Whole.{entry_of}
 use Rattle.publish_desk.proofs.desk.Desk.publish.Goals as goal
 
 pub returns-then-place-gt0 : goal.returns-then-place-gt0

@@ -1,0 +1,4 @@
+pub mod Accepting
+pub mod JobSources
+pub mod Supplies
+pub mod Histories
