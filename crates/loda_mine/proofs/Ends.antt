@@ -15,9 +15,9 @@ use Rattle.loda_mine.specs.declared.status.FileRole.{FileRole}
 use Rattle.loda_mine.specs.declared.status.FileRole.TheVariants.{Terms, Store, Candidates}
 use Rattle.loda_mine.specs.declared.status.Status.{Status}
 use Rattle.loda_mine.specs.declared.status.Status.TheVariants.{Done, Usage, ReadFault, FileTooLarge, LineTooLong, BadTerms, BadStore, BadCandidates, Unsound, Absent, WriteFault, Memory}
-use Rattle.loda_mine.specs.declared.words.Task.{Task}
-use Rattle.loda_mine.specs.declared.words.Task.TheVariants.{Publish, Check, Eval, Made}
-use Rattle.loda_mine.specs.Words.{Request}
+use Rattle.command_words.specs.declared.request.Task.{Task}
+use Rattle.command_words.specs.declared.request.Task.TheVariants.{Publish, Check, Eval, Made, Mine}
+use Rattle.command_words.specs.Words.{Request}
 use Rattle.loda_mine.specs.Answer.{Found, ◌>>=◌, bytes_of, table_in, parsed_in, found_terms, found_store, found_candidates, contents_of, Refuses, IsAnswer}
 use Rattle.loda_mine.specs.Run.{IsNothing, FindsAt, Finds, Ends, RunsAs, FileFailed}
 
@@ -84,18 +84,22 @@ refuses_may P Publish limit contents (ReadFault file) h = absurd h
 refuses_may P Check limit contents (ReadFault file) h = absurd h
 refuses_may P (Eval name arg) limit contents (ReadFault file) h = absurd h
 refuses_may P (Made n kind) limit contents (ReadFault file) h = absurd h
+refuses_may P (Mine seed jobs workers) limit contents (ReadFault file) h = absurd h
 refuses_may P Publish limit contents Done h = absurd h
 refuses_may P Check limit contents Done h = absurd h
 refuses_may P (Eval name arg) limit contents Done h = absurd h
 refuses_may P (Made n kind) limit contents Done h = absurd h
+refuses_may P (Mine seed jobs workers) limit contents Done h = absurd h
 refuses_may P Publish limit contents Usage h = absurd h
 refuses_may P Check limit contents Usage h = absurd h
 refuses_may P (Eval name arg) limit contents Usage h = absurd h
 refuses_may P (Made n kind) limit contents Usage h = absurd h
+refuses_may P (Mine seed jobs workers) limit contents Usage h = absurd h
 refuses_may P Publish limit contents WriteFault h = absurd h
 refuses_may P Check limit contents WriteFault h = absurd h
 refuses_may P (Eval name arg) limit contents WriteFault h = absurd h
 refuses_may P (Made n kind) limit contents WriteFault h = absurd h
+refuses_may P (Mine seed jobs workers) limit contents WriteFault h = absurd h
 
 -- why an answer is no output
 answer_may : (P : FileRole → Type 0) (request : Request) (contents : Result Contents Status) (s : Status) → Errs (May P) contents → IsAnswer request contents (Err s) → May P s

@@ -14,13 +14,13 @@ use Rattle.loda_mine.specs.declared.status.FileRole.{FileRole}
 use Rattle.loda_mine.specs.declared.status.FileRole.TheVariants.{Terms, Store, Candidates}
 use Rattle.loda_mine.specs.declared.status.Status.{Status}
 use Rattle.loda_mine.specs.declared.status.Status.TheVariants.{Done, Usage, ReadFault, FileTooLarge, LineTooLong, BadTerms, BadStore, BadCandidates, Unsound, Absent, WriteFault, Memory}
-use Rattle.loda_mine.specs.declared.words.Task.{Task}
-use Rattle.loda_mine.specs.declared.words.Task.TheVariants.{Publish, Check, Eval, Made}
-use Rattle.loda_mine.specs.Words.{Request}
+use Rattle.command_words.specs.declared.request.Task.{Task}
+use Rattle.command_words.specs.declared.request.Task.TheVariants.{Publish, Check, Eval, Made, Mine}
+use Rattle.command_words.specs.Words.{Request, IsMine}
 use Rattle.loda_mine.proofs.Opened.{nothing_checked}
 use Rattle.loda_mine.proofs.Ends.{May, errs_is, contents_may, refuses_may}
 use Rattle.loda_mine.specs.Answer.{Found, ◌>>=◌, bytes_of, found_terms, found_store, found_candidates, contents_of, Writes, Refuses, IsAnswer}
-use Rattle.loda_mine.specs.Run.{IsNothing, FindsAt, Finds, Ends, EndsAs, RunsAs, Files, TellsAt, Tells, all_of, StopsAt, EndsWith, Exactly, IsReady, NothingFails, Opens, WritesOutput, Headline}
+use Rattle.loda_mine.specs.Run.{IsNothing, FindsAt, Finds, Ends, EndsAs, RunsAs, Files, TellsAt, Tells, all_of, StopsAt, EndsWith, Exactly, IsReady, NothingFails, Opens, WritesOutput, Headline, MineHeadline}
 
 -- ---- answers by what was found, and by what is told
 
@@ -116,6 +116,7 @@ ready_memory : (task : Task) (limit : ℕ) (contents : Contents) (s : Status) �
 ready_memory task limit contents Memory ready h = refl
 ready_memory Publish limit contents (Unsound reason) ready h = absurd ((one_reason contents.store (row_of contents.terms) limit).never_both reason h ready)
 ready_memory Check limit contents (Unsound reason) ready h = absurd ((one_reason contents.store (row_of contents.terms) limit).never_both reason h ready)
+ready_memory (Mine seed jobs workers) limit contents (Unsound reason) ready h = absurd ((one_reason contents.store (row_of contents.terms) limit).never_both reason h ready)
 ready_memory (Eval name arg) limit contents (Absent absent) ready h = absurd (let e = sym ready.1 ∙ h.1 in cc)
 ready_memory Publish limit contents Done ready h = absurd h
 ready_memory Publish limit contents Usage ready h = absurd h
@@ -158,6 +159,16 @@ ready_memory (Made n what) limit contents (BadCandidates line kind) ready h = ab
 ready_memory (Made n what) limit contents (Unsound reason) ready h = absurd h
 ready_memory (Made n what) limit contents (Absent name) ready h = absurd h
 ready_memory (Made n what) limit contents WriteFault ready h = absurd h
+ready_memory (Mine seed jobs workers) limit contents Done ready h = absurd h
+ready_memory (Mine seed jobs workers) limit contents Usage ready h = absurd h
+ready_memory (Mine seed jobs workers) limit contents (ReadFault file) ready h = absurd h
+ready_memory (Mine seed jobs workers) limit contents (FileTooLarge file size) ready h = absurd h
+ready_memory (Mine seed jobs workers) limit contents (LineTooLong file line) ready h = absurd h
+ready_memory (Mine seed jobs workers) limit contents (BadTerms line kind) ready h = absurd h
+ready_memory (Mine seed jobs workers) limit contents (BadStore line kind) ready h = absurd h
+ready_memory (Mine seed jobs workers) limit contents (BadCandidates line kind) ready h = absurd h
+ready_memory (Mine seed jobs workers) limit contents (Absent name) ready h = absurd h
+ready_memory (Mine seed jobs workers) limit contents WriteFault ready h = absurd h
 
 abbrev Completes : Status → Type 0
 Completes s = (s ≡ Done) ⊎ (s ≡ Memory)
@@ -231,3 +242,29 @@ headline o k k' w w' request files h e task tells =
     let wrote = done_wrote o k k' w w' request files h e tells in
     let is : Writes Publish request.limit wrote.0 wrote.2.output = subst (λ t. Writes t request.limit wrote.0 wrote.2.output) task wrote.2.is in
     record { contents = wrote.0; desk = is.0; opens = wrote.1; decided = is.1; added = subst (Adds w w') is.2 wrote.2.added }
+
+-- a task for workers is one of so many jobs of a seed
+is_mine_of : (task : Task) → IsMine task → (seed : ℕ) × (jobs : ℕ) × (workers : ℕ) × (task ≡ Mine seed jobs workers)
+is_mine_of (Mine seed jobs workers) h = (seed, jobs, workers, refl)
+is_mine_of Publish h = absurd h
+is_mine_of Check h = absurd h
+is_mine_of (Eval name arg) h = absurd h
+is_mine_of (Made n kind) h = absurd h
+
+pub mine_headline : (o : Option Request) (k k' : Known) (w w' : Written) (request : Request) (files : Files) → RunsAs o k k' w w' Done → o ≡ Some request → IsMine request.task → Tells k request files
+    → MineHeadline k w w' request files
+mine_headline o k k' w w' request files h e mine tells =
+    let wrote = done_wrote o k k' w w' request files h e tells in
+    let task = is_mine_of request.task mine in
+    let is : Writes (Mine task.0 task.1 task.2) request.limit wrote.0 wrote.2.output = subst (λ t. Writes t request.limit wrote.0 wrote.2.output) task.3 wrote.2.is in
+    record {
+      seed = task.0;
+      jobs = task.1;
+      workers = task.2;
+      task = task.3;
+      contents = wrote.0;
+      desk = is.0;
+      opens = wrote.1;
+      mined = is.1;
+      added = subst (Adds w w') is.2 wrote.2.added;
+    }

@@ -15,9 +15,9 @@ use Rattle.loda_mine.specs.declared.status.FileRole.{FileRole}
 use Rattle.loda_mine.specs.declared.status.FileRole.TheVariants.{Terms, Store, Candidates}
 use Rattle.loda_mine.specs.declared.status.Status.{Status}
 use Rattle.loda_mine.specs.declared.status.Status.TheVariants.{ReadFault, BadStore, Memory}
-use Rattle.loda_mine.specs.declared.words.Task.{Task}
-use Rattle.loda_mine.specs.declared.words.Task.TheVariants.{Publish, Check, Eval, Made}
-use Rattle.loda_mine.specs.Words.{Request}
+use Rattle.command_words.specs.declared.request.Task.{Task}
+use Rattle.command_words.specs.declared.request.Task.TheVariants.{Publish, Check, Eval, Made, Mine}
+use Rattle.command_words.specs.Words.{Request}
 use Rattle.loda_mine.specs.Answer.{Found, ◌>>=◌, bytes_of, table_in, parsed_in, found_terms, found_store, found_candidates, contents_of, Refuses, IsAnswer}
 use Rattle.loda_mine.proofs.Ends.{Errs, errs_then}
 use Rattle.loda_mine.specs.Run.{Finds, Ends, EndsAs, RunsAs, FileFailed, path_at, Files, TellsAt, EndsWith, error_in, stop_of, TellsTo, IsFirstStop, EndsSoOr, Precedes}
@@ -137,6 +137,7 @@ never_blames Publish limit contents file h = h
 never_blames Check limit contents file h = h
 never_blames (Eval name arg) limit contents file h = h
 never_blames (Made n kind) limit contents file h = h
+never_blames (Mine seed jobs workers) limit contents file h = h
 
 -- what is blamed on a later file was not met at this one
 blamed_later : {A B : Type 0} (role file : FileRole) (r : Result A Status) (f : A → Result B Status) → Errs (OfFile role) r → r >>= f ≡ Err (ReadFault file) → (file ≡ role → ⊥)

@@ -12,7 +12,7 @@ use Rattle.program_store.specs.declared.published.Proposal.{Proposal}
 use Rattle.program_store.specs.Store.{Store}
 use Rattle.loda_mine.specs.declared.files.Contents.{Contents}
 use Rattle.loda_mine.specs.declared.status.Status.{Status}
-use Rattle.loda_mine.specs.Words.{Request}
+use Rattle.command_words.specs.Words.{Request}
 use Rattle.loda_mine.specs.Answer.{Found, found_terms, found_store, found_candidates, contents_of}
 use Rattle.loda_mine.specs.Run.{FindsAt, Finds}
 

@@ -12,8 +12,8 @@ use Rattle.judge.proofs.OneReason.{one_reason}
 use Rattle.loda_mine.specs.declared.files.Contents.{Contents}
 use Rattle.loda_mine.specs.declared.status.Status.{Status}
 use Rattle.loda_mine.specs.declared.status.Status.TheVariants.{Done, Usage, ReadFault, FileTooLarge, LineTooLong, BadTerms, BadStore, BadCandidates, Unsound, Absent, WriteFault, Memory}
-use Rattle.loda_mine.specs.declared.words.Kind.TheVariants.{Run}
-use Rattle.loda_mine.specs.declared.words.Task.TheVariants.{Publish, Made}
+use Rattle.command_words.specs.declared.request.Kind.TheVariants.{Run}
+use Rattle.command_words.specs.declared.request.Task.TheVariants.{Publish, Made}
 use Rattle.loda_mine.specs.Answer.{made_contents, Refuses}
 
 nothing : {A : Type 0} (x : A) → None ≡ Some x → ⊥

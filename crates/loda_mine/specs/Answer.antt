@@ -21,22 +21,23 @@ use Rattle.seq_calls.specs.Frames.{told}
 use Rattle.judge.specs.declared.opening.CheckError.{CheckError}
 use Rattle.judge.specs.declared.opening.CheckError.TheVariants as check_errors
 use Rattle.judge.specs.Sound.{Sound, IsUnsound}
-use Rattle.publish_desk.specs.declared.charter.Source.TheVariants.{Listed}
+use Rattle.publish_desk.specs.declared.charter.Source.TheVariants.{Listed, Seeded}
 use Rattle.publish_desk.specs.declared.desk.OpenError.{OpenError}
 use Rattle.publish_desk.specs.declared.desk.OpenError.TheVariants as open_errors
 use Rattle.publish_desk.specs.Desk.{Desk, IsKept, history}
 use Rattle.publish_desk.specs.History.{IsInOrder}
 use Rattle.publish_desk.specs.Report.{report}
+use Rattle.mine_workers.specs.Histories.{IsWhole}
 use Rattle.loda_mine.specs.declared.files.Contents.{Contents}
 use Rattle.loda_mine.specs.declared.status.FileRole.{FileRole}
 use Rattle.loda_mine.specs.declared.status.FileRole.TheVariants.{Terms, Store, Candidates}
 use Rattle.loda_mine.specs.declared.status.Status.{Status}
 use Rattle.loda_mine.specs.declared.status.Status.TheVariants as statuses
-use Rattle.loda_mine.specs.declared.words.Task.{Task}
-use Rattle.loda_mine.specs.declared.words.Task.TheVariants.{Publish, Check, Eval, Made}
-use Rattle.loda_mine.specs.declared.words.Kind.{Kind}
-use Rattle.loda_mine.specs.declared.words.Kind.TheVariants as kinds
-use Rattle.loda_mine.specs.Words.{Request}
+use Rattle.command_words.specs.declared.request.Task.{Task}
+use Rattle.command_words.specs.declared.request.Task.TheVariants.{Publish, Check, Eval, Made, Mine}
+use Rattle.command_words.specs.declared.request.Kind.{Kind}
+use Rattle.command_words.specs.declared.request.Kind.TheVariants as kinds
+use Rattle.command_words.specs.Words.{Request}
 use Rattle.loda_mine.specs.Outputs.{outcome_text, sound_text, summary_text}
 
 -- what reading each file gave: its bytes, or an error
@@ -119,6 +120,15 @@ pub record IsDecided (contents : Contents) (limit : ℕ) (d : Desk) : Type 0 whe
   pub in_order : IsInOrder (history d)
   pub whole : length d.journal ≡ length contents.candidates
 
+-- A desk that was opened on what stands in the files, with jobs of a seed, and has an entry for each job. What every desk keeps is kept:
+-- the journal is legal, so no job has two entries, and replays to the store, the store is sound, and nothing was lost. One worker
+-- decides the jobs in order.
+pub record IsMined (contents : Contents) (limit seed jobs workers : ℕ) (d : Desk) : Type 0 where
+  pub charter : d.charter ≡ record { opening = contents.store; terms = contents.terms; limit = limit; source = Seeded seed; jobs = jobs }
+  pub kept : IsKept d
+  pub whole : IsWhole d
+  pub in_order : workers ≡ 1 → IsInOrder (history d)
+
 -- what stands in made files: the rows, no program, and the candidates of n names
 abbrev pub made_contents : ℕ → Contents
 made_contents n = record { terms = made_table n; store = map.empty; candidates = made_candidates n }
@@ -138,12 +148,14 @@ Writes Check limit contents output = Sound contents.store (row_of contents.terms
 Writes (Eval name arg) limit contents output =
     (e : Published) × (published_at contents.store name ≡ Some e) × (output ≡ outcome_text (told (run_name (programs_of contents.store) name arg limit).0))
 Writes (Made n kind) limit contents output = WritesMade kind n limit output
+Writes (Mine seed jobs workers) limit contents output = (d : Desk) × IsMined contents limit seed jobs workers d × (output ≡ report d.journal d.version d.store)
 
 -- why it writes nothing: the opening store isn't sound, the name isn't published, or memory ran out
 abbrev pub Refuses : Task → ℕ → Contents → Status → Type 0
 Refuses task limit contents statuses.Memory = Unit {0}
 Refuses Publish limit contents (statuses.Unsound reason) = IsUnsound contents.store (row_of contents.terms) limit reason
 Refuses Check limit contents (statuses.Unsound reason) = IsUnsound contents.store (row_of contents.terms) limit reason
+Refuses (Mine seed jobs workers) limit contents (statuses.Unsound reason) = IsUnsound contents.store (row_of contents.terms) limit reason
 Refuses (Eval name arg) limit contents (statuses.Absent absent) = (absent ≡ name) × (published_at contents.store name ≡ None)
 Refuses task limit contents status = ⊥
 

@@ -1,5 +1,3 @@
-pub mod Words
-pub mod Requests
 pub mod Outputs
 pub mod Answer
 pub mod Run

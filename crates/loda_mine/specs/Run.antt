@@ -17,10 +17,10 @@ use Rattle.loda_mine.specs.declared.status.FileRole.{FileRole}
 use Rattle.loda_mine.specs.declared.status.FileRole.TheVariants.{Terms, Store, Candidates}
 use Rattle.loda_mine.specs.declared.status.Status.{Status}
 use Rattle.loda_mine.specs.declared.status.Status.TheVariants.{Done, Usage, ReadFault, WriteFault, Memory}
-use Rattle.loda_mine.specs.declared.words.Task.{Task}
-use Rattle.loda_mine.specs.declared.words.Task.TheVariants.{Publish, Check, Eval, Made}
-use Rattle.loda_mine.specs.Words.{Request}
-use Rattle.loda_mine.specs.Answer.{Found, found_terms, found_store, found_candidates, contents_of, IsDecided, Writes, IsAnswer}
+use Rattle.command_words.specs.declared.request.Task.{Task}
+use Rattle.command_words.specs.declared.request.Task.TheVariants.{Publish, Check, Eval, Made, Mine}
+use Rattle.command_words.specs.Words.{Request}
+use Rattle.loda_mine.specs.Answer.{Found, found_terms, found_store, found_candidates, contents_of, IsDecided, IsMined, Writes, IsAnswer}
 
 -- ---- what is found
 
@@ -168,6 +168,7 @@ IsReady Publish limit contents = Sound contents.store (row_of contents.terms) li
 IsReady Check limit contents = Sound contents.store (row_of contents.terms) limit
 IsReady (Eval name arg) limit contents = (e : Published) × (published_at contents.store name ≡ Some e)
 IsReady (Made n kind) limit contents = Unit {0}
+IsReady (Mine seed jobs workers) limit contents = Sound contents.store (row_of contents.terms) limit
 
 -- nothing fails: no file of the words, and not the sink
 pub record NothingFails (k k' : Known) (w w' : Written) (request : Request) : Type 0 where
@@ -195,6 +196,20 @@ pub record Headline (k : Known) (w w' : Written) (request : Request) (files : Fi
   pub desk : Desk
   pub opens : Opens k request files contents
   pub decided : IsDecided contents request.limit desk
+  pub added : Adds w w' (report desk.journal desk.version desk.store)
+
+-- The headline of `mine`. A desk was opened on what stands in the files and has an entry for each of the jobs 0 to the number that
+-- was asked for less one, once each; what was written is the report of its journal and its store. With one worker the entries stand in
+-- the order of the jobs, each with the version at its place as its base.
+pub record MineHeadline (k : Known) (w w' : Written) (request : Request) (files : Files) : Type 0 where
+  pub seed : ℕ
+  pub jobs : ℕ
+  pub workers : ℕ
+  pub task : request.task ≡ Mine seed jobs workers
+  pub contents : Contents
+  pub desk : Desk
+  pub opens : Opens k request files contents
+  pub mined : IsMined contents request.limit seed jobs workers desk
   pub added : Adds w w' (report desk.journal desk.version desk.store)
 
 -- what a command writes is one function of the words and the files

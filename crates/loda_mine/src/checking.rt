@@ -10,8 +10,8 @@ ghost use Rattle.loda_mine.specs.Answer.{IsOutput, bytes_in};
 
 use crate::files::Contents;
 use crate::status::Status;
-use crate::words::Task;
 use checked_numbers::{Num, write_num};
+use command_words::Task;
 use judge::check_store;
 use program_store::{Store, View};
 use seq_calls::{Outcome, outcome_alone};

@@ -8,11 +8,11 @@ ghost use Rattle.oeis_terms.specs.Table.{IsBounded};
 ghost use Rattle.program_store.specs.Files.{store_read, candidates_read};
 ghost use Rattle.loda_mine.specs.Files.{terms_status, parsed_status, TermsAt, ParsedAt};
 ghost use Rattle.loda_mine.specs.Answer.{Found, found_terms, found_store, found_candidates, contents_of};
-ghost use Rattle.loda_mine.specs.Requests.{asked};
+ghost use Rattle.command_words.specs.Requests.{asked};
 ghost use Rattle.loda_mine.specs.Run.{FindsAt, Finds};
 
 use crate::status::{FileRole, Status};
-use crate::words::Request;
+use command_words::Request;
 use loda_io::Shelf;
 use oeis_terms::{TermTable, TermsError, parse_terms, read_terms};
 use program_store::{

@@ -10,7 +10,7 @@ use crate::checking::write_line;
 use crate::files::Contents;
 use crate::publishing::decided;
 use crate::status::Status;
-use crate::words::{Kind, Task};
+use command_words::{Kind, Task};
 use judge::Answer;
 use made_input::{candidates_text, made_candidates, made_table, store_text, terms_text};
 use program_store::Store;

@@ -10,13 +10,11 @@ use Rattle.publish_desk.specs.History.{proposal_of}
 use Rattle.publish_desk.specs.Desk.{Desk, HasJobs, IsFrom, IsKept, IsFitting}
 use Rattle.publish_desk.proofs.Fitting.{fits_now}
 use Rattle.mine_workers.specs.JobSources.{JobSource, job_source_of, HasJob}
+use Rattle.mine_workers.specs.Shared.{snapshot_of}
 
 pub has_job : (source : Source) (jobs job : ℕ) → HasJobs source jobs → job < jobs → HasJob source job
 has_job (Listed candidates) jobs job h lt = let e : jobs ≡ length candidates = h in omega (arith, e, lt)
 has_job (Seeded seed) jobs job h lt = tt
-
-abbrev pub snapshot_of : Desk → Snapshot
-snapshot_of d = record { store = d.store; version = d.version; length = length d.journal }
 
 module _ (d : Desk) (j : JobSource) (s : Snapshot) (is : j ≡ job_source_of d.charter) (now : s ≡ snapshot_of d) (kept : IsKept d) where
   pub sound_here : Sound s.store (row_of j.terms) j.limit

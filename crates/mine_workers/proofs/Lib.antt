@@ -1,7 +1,22 @@
 -- FirstAccepted: the first proposal of a list that is accepted, as far as the list was tried. Fits: what is found in a desk's
--- present store fits it. Adding: what a caller that takes the jobs in ascending order has added to a journal.
+-- present store fits it. Adding: what a caller that takes the jobs in ascending order has added to a journal. Onward: a journal that goes
+-- on. Found: what a seat knows after a look and after a publish. Gathered: what is gathered for a seat fits what it has seen. Posts: the
+-- last seat of a list. Crossing: a `JobSource` may be moved to another thread and be shared. Sharing: so may a desk, a worker's post and a
+-- shared store.
 pub mod FirstAccepted
 -- What is found in a desk's present store fits the desk.
 pub mod Fits
 -- What a caller that takes the jobs in ascending order has added to a journal.
 pub mod Adding
+-- A journal that goes on keeps its earlier stores and versions, and a dossier that fitted it fits it still.
+mod Onward
+-- What a seat knows after a look and after a publish, over the desk that was found under the turn.
+mod Found
+-- What is gathered for the store that a seat sees fits the journal that it has seen.
+mod Gathered
+-- What holds of all members of a list holds of the last, of those before it, and of each as something weaker.
+mod Posts
+-- What the dossiers of jobs are made of may be moved to another thread and be shared by threads.
+mod Crossing
+-- A desk may go to another thread, and with it a worker's post; a shared store may be shared.
+mod Sharing

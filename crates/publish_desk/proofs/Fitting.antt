@@ -46,7 +46,7 @@ same_if : (a b : ℕ) → eqb a b ≡ true → a ≡ b
 same_if a b h = grind arith
 
 -- an entry changes no store of an earlier version
-earlier_store : (opening : Store) (h : List Entry) (e : Entry) (v : ℕ) → v ≤ version_of h → store_at opening (e ∷ h) v ≡ store_at opening h v
+pub earlier_store : (opening : Store) (h : List Entry) (e : Entry) (v : ℕ) → v ≤ version_of h → store_at opening (e ∷ h) v ≡ store_at opening h v
 earlier_store opening h e v le = by_test (eqb (version_of (e ∷ h)) v) refl
   where
     by_test : (b : Bool) → eqb (version_of (e ∷ h)) v ≡ b → cond b (replay opening (e ∷ h)) (store_at opening h v) ≡ store_at opening h v

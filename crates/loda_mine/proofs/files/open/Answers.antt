@@ -1,5 +1,5 @@
 use Rattle.std.proofs.lemmas.Result.{err_from_is_err_and}
-use Rattle.loda_mine.specs.Requests.{asked}
+use Rattle.command_words.specs.Requests.{asked}
 use Rattle.loda_mine.proofs.Reading.{stops_at_terms, stops_at_store, stops_at_candidates, all_opened}
 use Rattle.loda_mine.proofs.files.open.Goals as goal
 

@@ -1,7 +1,7 @@
 use Rattle.std.proofs.Common.{ℕ, List, ◌≡◌, ◌++◌, ◌∙◌, refl, ap, subst, length}
 use Rattle.std.proofs.lemmas.Result.{err_from_is_err_and}
 use Rattle.loda_mine.specs.declared.files.Contents.{Contents}
-use Rattle.loda_mine.specs.declared.words.Task.TheVariants.{Publish}
+use Rattle.command_words.specs.declared.request.Task.TheVariants.{Publish}
 use Rattle.loda_mine.specs.Answer.{IsDecided, Refuses}
 use Rattle.loda_mine.specs.Outputs.{summary_text}
 use Rattle.loda_mine.proofs.Unrefused.{made_refused}

@@ -3,5 +3,6 @@ use Rattle.loda_mine.proofs.publishing.decided.Goals as goal
 
 pub returns-clause-decided : goal.returns-clause-decided
 returns-clause-decided c =
-    let all = c.in_ok-decide_all.ensures in
-    decided c.args.contents c.args.limit c.in_ok-desk.desk c.decide_all.new.desk c.in_ok-desk.ensures.charter all.charter all.whole all.in_order c.version.ensures.kept
+    let opened = c.in_ok-opened.ensures in
+    let all = c.in_ok-desk.ensures in
+    decided c.args.contents c.args.limit c.in_ok-opened.opened c.in_ok-desk.desk opened.charter all.charter all.whole (all.fresh opened.journal) all.kept

@@ -1,3 +1,4 @@
+use Rattle.command_words.proofs.Tasks.{is_plain}
 use Rattle.loda_mine.proofs.Ends.{usage_is, write_failed, read_failed, nothing_written}
 use Rattle.loda_mine.proofs.Exact.{exactly, complete, done_wrote, headline}
 use Rattle.loda_mine.proofs.First.{first_stop, earlier_opened}
@@ -26,7 +27,7 @@ pub returns-clause-done : goal.returns-clause-done
 returns-clause-done g c = λ request files is tells e. done_wrote _ _ _ _ _ request files (rw e at c.run.ensures.run) is tells
 
 pub returns-clause-one : goal.returns-clause-one
-returns-clause-one g c = one_output
+returns-clause-one g c = λ asks inside is. one_output asks inside (is_plain _ asks is)
 
 pub returns-clause-before : goal.returns-clause-before
 returns-clause-before g c = λ asks file earlier bytes is e order tells. earlier_opened _ _ _ _ _ asks file earlier bytes (rw e at c.run.ensures.run) is order tells

@@ -1,0 +1,4 @@
+-- Whether words have keys, the value behind a key, and a key that may stand once.
+pub mod ReadWords
+-- Which tasks the two grammars give.
+pub mod Tasks

@@ -1,4 +1,0 @@
-use Rattle.loda_mine.proofs.publishing.found_alone.Given as goal
-
-abbrev pub ghosts-found : goal.ghosts-found
-ghosts-found a = record { name = a.blank.name; parts = a.blank.parts }
