@@ -10,6 +10,7 @@ use Rattle.call_graph.specs.Closure.{CallsName}
 use Rattle.call_graph.specs.Callers.{AddsCaller}
 use Rattle.call_graph.proofs.Loops.{not_there, up_to_next}
 use Rattle.call_graph.proofs.Upward.{one_call}
+use Rattle.text_parts.specs.declared.names.TheConstants.{GREATEST_NAME}
 
 -- one more call puts the caller last under what it calls
 module _ (old mid new : ℕ → List ℕ) (caller called : ℕ) (calls : List ℕ)
@@ -58,12 +59,12 @@ module _ (old mid new : ℕ → List ℕ) (caller called : ℕ) (calls : List �
 
 -- the lists have the calls of the names up to `after`, and no others
 pub record IsTurned (s : Store) (under : ℕ → List ℕ) (after : ℕ) : Type 0 where
-  pub named : after ≤ 999999
+  pub named : after ≤ GREATEST_NAME
   pub sound : (to from : ℕ) → Contains (under to) from → CallsName (programs_of s) from to
   pub whole : (from : ℕ) → 1 ≤ from → from ≤ after → (to : ℕ) → CallsName (programs_of s) from to → Contains (under to) from
 
 -- the next name is visited, and has a program
-pub turned_more : (s : Store) (under : ℕ → List ℕ) (after next : ℕ) → IsTurned s under after → next ≤ 999999 → ((k : ℕ) → after < k → k < next → published_at s k ≡ None)
+pub turned_more : (s : Store) (under : ℕ → List ℕ) (after next : ℕ) → IsTurned s under after → next ≤ GREATEST_NAME → ((k : ℕ) → after < k → k < next → published_at s k ≡ None)
     → (new : ℕ → List ℕ) (p : Text) → programs_of s next ≡ Some p → AddsCaller under new next (calls_of p) → IsTurned s new next
 turned_more s under after next turned up between new p has adds = record {
   named = up;

@@ -1,4 +1,4 @@
--- Calls turned round: which names stand under the name that they call.
+-- Calls turned round: which names stand under the name that they call. Only clauses of private functions use what stands here.
 use Rattle.std.specs.Prelude.{ℕ, ◌≡◌, ◌⊎◌, ◌↔◌, List, [], Contains, nat_eq}
 use Rattle.std.specs.Global.{Vec}
 use Rattle.std.specs.Option.{option_map_or}

@@ -1,4 +1,4 @@
--- Walks down the calls: names that are done, a stack of names that are not, and the groups in which these stand.
+-- Walks down the calls: names that are done, a stack of names that are not, and the groups in which these stand. Only clauses of private functions use what stands here.
 use Rattle.std.specs.Prelude.{⊤, ℕ, ◌≡◌, ◌⊎◌, ◌<◌, ◌≤◌, List, [], ◌∷◌, Contains, length, get_or, drop}
 use Rattle.std.specs.declared.option.Option.TheVariants.{Some}
 use Rattle.loda_syntax.specs.Programs.{Text}

@@ -1,4 +1,4 @@
--- What a walk down the calls has found.
+-- What a walk down the calls has found. Only clauses of private functions use what stands here.
 use Rattle.std.specs.Prelude.{ℕ, ◌≡◌, ◌⊎◌, ◌<◌, ◌↔◌, List, [], ◌++◌, Contains, length, get_or}
 use Rattle.loda_semantics.specs.Exec.{Library}
 use Rattle.program_store.specs.Graph.{OnCycle}

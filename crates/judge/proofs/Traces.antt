@@ -35,7 +35,7 @@ contains_later q names r h = (suc h.0, let lt = h.1 in omega (arith, lt), h.2)
 
 module _ (P : ℕ → Type 0) where
   -- the instruction calls no name without the property
-  abbrev CallsOnly : Instr → Type 0
+  abbrev pub CallsOnly : Instr → Type 0
   CallsOnly (Call t r) = P r
   CallsOnly (Arith v t s) = Unit {0}
   CallsOnly (Clear c k) = Unit {0}
@@ -43,7 +43,7 @@ module _ (P : ℕ → Type 0) where
   CallsOnly LoopEnd = Unit {0}
 
   -- nor does any in the tree
-  abbrev HasOnly : Tree → Type 0
+  abbrev pub HasOnly : Tree → Type 0
   HasOnly end = Unit {0}
   HasOnly (step i rest) = CallsOnly i × HasOnly rest
   HasOnly (loop c k body rest) = HasOnly body × HasOnly rest

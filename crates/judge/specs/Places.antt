@@ -1,4 +1,4 @@
--- Programs at the places of their names.
+-- Programs at the places of their names. Only clauses of private functions use what stands here.
 use Rattle.std.specs.Prelude.{◌≡◌, List, All}
 use Rattle.std.specs.declared.option.Option.TheVariants.{Some}
 use Rattle.loda_semantics.specs.Exec.{Library}

@@ -1,4 +1,4 @@
--- What is answered to a proposal for a published name.
+-- What is answered to a proposal for a published name. Only clauses of private functions use what stands here.
 use Rattle.std.specs.Prelude.{ℕ, ◌<◌, ◌≤◌, ◌≡◌, ℤ, pos, List, length}
 use Rattle.loda_syntax.specs.Programs.{Text, instrs}
 use Rattle.program_store.specs.declared.published.Published.{Published}

@@ -7,6 +7,7 @@ ghost use Rattle.judge.specs.Places.{ArePrograms};
 use loda_syntax::Program;
 use program_store::{Library, View};
 use std::alloc::{AllocError, Global};
+use text_parts::GREATEST_NAME;
 
 /// A name, and its program.
 #[derive(Clone, Copy)]
@@ -51,7 +52,7 @@ fn place_of(name: u32, len: usize) -> usize {
 
 // How many names have something published.
 fn count<V: View>(view: &V) -> u32
-    ensures { result ≤ 999999 }
+    ensures { result ≤ GREATEST_NAME }
 {
     let mut count = 0;
     let mut last = 0;

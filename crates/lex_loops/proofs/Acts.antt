@@ -25,6 +25,7 @@ use Rattle.lex_loops.specs.State.{open_loop, loops_of_marks, run_from, answered_
 use Rattle.lex_loops.specs.Steps.{memory_in, loops_in, run_in, IsMark, AreLoopMarks, IsUnderWay, HasRoom, Does, StepsTo, KeepsOn, IsAt, Acts, HasTaken, marked_anew, Serves, HasLogged}
 use Rattle.lex_loops.proofs.Memories.{before-replaces}
 use Rattle.lex_loops.proofs.Runs.{IsSingle, trees-single, goes-on, fails, is-spent, calls, charge-is, charge-spent, at_start, at_end}
+use Rattle.loda_syntax.specs.declared.instr.TheConstants.{MEMORY_CELLS}
 
 -- the open loops stay what they are as the log grows
 pub same-loops : (list : List Instr) (after : List Tree) (top : ℕ) (marks : List Mark) (log log' : List Written) (m m' : Memory)
@@ -179,7 +180,7 @@ logged-if true n e lt = absurd (let h : n ≡ 0 = grind arith in omega arith)
 logged-if false n e lt = refl
 
 -- the start of a loop, that is charged or not
-pub acts-open : (start len : ℕ) (old new : Progress) (n left : ℕ) → left + 1 ≡ n → new.at ≡ suc old.at → 1 ≤ len → start + len ≤ 4096
+pub acts-open : (start len : ℕ) (old new : Progress) (n left : ℕ) → left + 1 ≡ n → new.at ≡ suc old.at → 1 ≤ len → start + len ≤ MEMORY_CELLS
     → new.cells.values.items ≡ old.cells.values.items → new.cells.log.items ≡ old.cells.log.items
     → new.marks.items ≡ old.marks.items ++ record { body = suc old.at; start = start; len = len; logged = length old.cells.log.items } ∷ []
     → Acts (LoopStart start len) old n None left new
@@ -253,7 +254,7 @@ inside list old mark outer marks here under =
 
 -- what the end of a loop asks of its mark
 pub mark-in-range : (list : List Instr) (old : Progress) (mark : Mark) (outer : List Mark) → old.marks.items ≡ outer ++ mark ∷ [] → IsAt list old.at LoopEnd → IsUnderWay list old
-    → (1 ≤ mark.len) × (mark.start + mark.len ≤ 4096) × (mark.logged ≤ length old.cells.log.items)
+    → (1 ≤ mark.len) × (mark.start + mark.len ≤ MEMORY_CELLS) × (mark.logged ≤ length old.cells.log.items)
 mark-in-range list old mark outer marks here under = let m = (inside list old mark outer marks here under).is in (m.some, m.region, m.logged)
 
 -- and of the marks outside

@@ -1,4 +1,4 @@
--- How far a run has come, and what one instruction does to it.
+-- How far a run has come, and what one instruction does to it. Only clauses of private functions use what stands here.
 use Rattle.std.specs.Prelude.{ℕ, suc, ◌+◌, ◌<◌, ◌≤◌, ◌≡◌, ◌≢◌, ℤ, List, [], ◌∷◌, ◌++◌, reverse, drop, length, vec_len, vec_capacity}
 use Rattle.std.specs.declared.option.Option.{Option}
 use Rattle.std.specs.declared.option.Option.TheVariants.{Some, None}
@@ -16,6 +16,7 @@ use Rattle.lex_loops.specs.declared.stop.Stop.TheVariants as stop
 use Rattle.lex_loops.specs.declared.cells.Written.{Written}
 use Rattle.lex_loops.specs.Memories.{memory_of, IsWithin, Shortens}
 use Rattle.lex_loops.specs.State.{OpenLoop, loops_of_marks, run_from, StopsAs}
+use Rattle.loda_syntax.specs.declared.instr.TheConstants.{MEMORY_CELLS}
 
 -- the memory of a run
 abbrev pub memory_in : Progress → Memory
@@ -40,7 +41,7 @@ pub record IsMark (list : List Instr) (after : List Tree) (top depth : ℕ) (mar
   pub balanced : IsBalanced (suc depth) (drop mark.body list)
   pub logged : mark.logged ≤ top
   pub some : 1 ≤ mark.len
-  pub region : mark.start + mark.len ≤ 4096
+  pub region : mark.start + mark.len ≤ MEMORY_CELLS
 
 -- the marks of the open loops, the innermost first
 abbrev pub AreLoopMarks : List Instr → List Tree → ℕ → List Mark → Type 0

@@ -8,7 +8,7 @@ ghost use Rattle.lex_loops.specs.Memories.{memory_of, before, written, IsWithin,
 
 use checked_numbers::{Num, apply};
 use loda_semantics::{FaultKind, op_of};
-use loda_syntax::{Operand, Verb};
+use loda_syntax::{MEMORY_CELLS, Operand, Verb};
 use std::alloc::{AllocError, Global};
 
 // A log of one iteration with more writes than these is long.
@@ -60,7 +60,7 @@ fn address_in(value: Num) -> Option<u16>
     ensures { cell_at value ≡ result }
 {
     let value = value.get();
-    if 0 <= value && value < 4096 {
+    if 0 <= value && value < i128::from(MEMORY_CELLS) {
         Some(value as u16)
     } else {
         None
@@ -200,7 +200,7 @@ impl Cells {
 
     /// Whether a region is less than it was before the writes since the log was this long.
     pub fn is_less(&self, start: u16, count: u8, len: usize) -> bool
-        requires region { start + count ≤ 4096 }
+        requires region { start + count ≤ MEMORY_CELLS }
         requires len { len ≤ length self.now.log.items }
         ensures { result ≡ is_less count start (memory_of self.now.values.items) (before (drop len self.now.log.items) (memory_of self.now.values.items)) }
     {
@@ -283,7 +283,7 @@ impl Cells {
 
     /// Clears cells.
     pub fn clear(&mut self, start: u16, count: u16, logged: bool) -> Result<(), AllocError>
-        requires { start + count ≤ 4096 }
+        requires { start + count ≤ MEMORY_CELLS }
         ensures memory { OnOk result (memory_of self.new.values.items ≡ clear_cells (memory_of self.old.values.items) start count) }
         ensures replaces { IsTrue logged → OnOk result (Replaces self.old.log.items (memory_of self.old.values.items) self.new.log.items (memory_of self.new.values.items)) }
         ensures within { IsWithin (length self.old.values.items) self.old.log.items → OnOk result (IsWithin (length self.new.values.items) self.new.log.items) }

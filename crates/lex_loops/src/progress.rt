@@ -8,7 +8,7 @@ use crate::marks::Mark;
 use crate::stop::Stop;
 use checked_numbers::Num;
 use loda_semantics::FaultKind;
-use loda_syntax::{Instr, Operand, Verb};
+use loda_syntax::{Instr, MEMORY_CELLS, MOST_INSTRS, Operand, Verb};
 use std::alloc::{AllocError, Global};
 
 /// How far a run has come.
@@ -77,7 +77,7 @@ impl Progress {
         source: Operand,
         budget: &mut u64,
     ) -> Result<Option<Stop>, AllocError>
-        requires place { self.old.at < 1000 }
+        requires place { self.old.at < MOST_INSTRS }
         requires target { IsTarget target }
         requires source { IsSource source }
         ensures acts { IfOk result (λ stop. Acts (Instr.Arith verb target source) self.old budget.old stop budget.new self.new) }
@@ -107,8 +107,8 @@ impl Progress {
         count: u16,
         budget: &mut u64,
     ) -> Result<Option<Stop>, AllocError>
-        requires place { self.old.at < 1000 }
-        requires region { start + count ≤ 4096 }
+        requires place { self.old.at < MOST_INSTRS }
+        requires region { start + count ≤ MEMORY_CELLS }
         ensures acts { IfOk result (λ stop. Acts (Instr.Clear start count) self.old budget.old stop budget.new self.new) }
         ensures own { IfOk result IsOwn }
         ensures less { IfOk result (λ stop. IfNone stop (budget.new < budget.old)) }
@@ -135,7 +135,7 @@ impl Progress {
         name: u32,
         budget: &mut u64,
     ) -> Result<Option<Stop>, AllocError>
-        requires place { self.old.at < 1000 }
+        requires place { self.old.at < MOST_INSTRS }
         requires target { IsTarget target }
         ensures acts { IfOk result (λ stop. Acts (Instr.Call target name) self.old budget.old stop budget.new self.new) }
         ensures own { IfOk result IsOwn }
@@ -163,9 +163,9 @@ impl Progress {
 
     // The start of a loop: its first iteration begins.
     fn open(&mut self, start: u16, len: u8, budget: &mut u64) -> Result<Option<Stop>, AllocError>
-        requires place { self.old.at < 1000 }
+        requires place { self.old.at < MOST_INSTRS }
         requires some { 1 ≤ len }
-        requires region { start + len ≤ 4096 }
+        requires region { start + len ≤ MEMORY_CELLS }
         ensures acts { IfOk result (λ stop. Acts (Instr.LoopStart start len) self.old budget.old stop budget.new self.new) }
         ensures own { IfOk result IsOwn }
         ensures less { IfOk result (λ stop. IfNone stop (budget.new < budget.old)) }
@@ -191,7 +191,7 @@ impl Progress {
     // The end of a loop: it goes on, or the iteration is undone.
     fn close(&mut self, budget: &mut u64) -> Option<Stop>
         requires end { IsAtEnd self.old }
-        requires place { self.old.at < 1000 }
+        requires place { self.old.at < MOST_INSTRS }
         ensures acts { Acts Instr.LoopEnd self.old budget.old result budget.new self.new }
         ensures own { IsOwn result }
         ensures less { IfNone result (budget.new < budget.old) }
@@ -242,7 +242,7 @@ impl Progress {
 
     // Undoes an iteration and goes past its loop.
     fn leave(&mut self, mark: Mark)
-        requires place { self.old.at < 1000 }
+        requires place { self.old.at < MOST_INSTRS }
         requires logged { mark.logged ≤ length self.old.cells.log.items }
         requires within { IsWithin (length self.old.cells.values.items) self.old.cells.log.items }
         ensures at { self.new.at ≡ self.old.at + 1 }

@@ -7,9 +7,10 @@ use Rattle.std.proofs.lemmas.List.Elements.{All-nil, All-cons, All-head, All-tai
 use Rattle.std.proofs.lemmas.Bool.Decides.{Decides-eqb}
 use Rattle.loda_io.specs.declared.ReadError.{ReadError}
 use Rattle.loda_io.specs.declared.ReadError.TheVariants.{FileTooLarge, LineTooLong}
-use Rattle.loda_io.specs.Shelf.{Spot, first_past_limit, file_limit, line_limit, beginning, file_unless, checked}
+use Rattle.loda_io.specs.Shelf.{Spot, first_past_limit, beginning, file_unless, checked}
 use Rattle.loda_io.specs.Whole.{IsShort, AreShort, size_of, file_lines, IsWhole, IsFirstTooLong, IsTooLarge}
 use Rattle.loda_io.proofs.Faults.{IfFault, first_faults}
+use Rattle.loda_io.specs.declared.scan.TheConstants.{FILE_LIMIT, LINE_LIMIT}
 
 -- ---- the lines, where some bytes of the first have been read
 
@@ -88,10 +89,10 @@ next_byte : Spot → Spot
 next_byte s = record { at = s.at + 1; line = s.line; column = s.column + 1 }
 
 data Step (s : Spot) (b : ℕ) (bs : List ℕ) : Type 0 where
-  full : s.at ≡ file_limit → first_past_limit s (b ∷ bs) ≡ Some (FileTooLarge (file_limit + 1)) → Step s b bs
-  ended : (s.at ≡ file_limit → ⊥) → (b == 10) ≡ true → first_past_limit s (b ∷ bs) ≡ first_past_limit (next_line s) bs → Step s b bs
-  past : (s.at ≡ file_limit → ⊥) → (b == 10) ≡ false → s.column ≡ line_limit → first_past_limit s (b ∷ bs) ≡ Some (LineTooLong s.line) → Step s b bs
-  longer : (s.at ≡ file_limit → ⊥) → (b == 10) ≡ false → (s.column ≡ line_limit → ⊥) → first_past_limit s (b ∷ bs) ≡ first_past_limit (next_byte s) bs → Step s b bs
+  full : s.at ≡ FILE_LIMIT → first_past_limit s (b ∷ bs) ≡ Some (FileTooLarge (FILE_LIMIT + 1)) → Step s b bs
+  ended : (s.at ≡ FILE_LIMIT → ⊥) → (b == 10) ≡ true → first_past_limit s (b ∷ bs) ≡ first_past_limit (next_line s) bs → Step s b bs
+  past : (s.at ≡ FILE_LIMIT → ⊥) → (b == 10) ≡ false → s.column ≡ LINE_LIMIT → first_past_limit s (b ∷ bs) ≡ Some (LineTooLong s.line) → Step s b bs
+  longer : (s.at ≡ FILE_LIMIT → ⊥) → (b == 10) ≡ false → (s.column ≡ LINE_LIMIT → ⊥) → first_past_limit s (b ∷ bs) ≡ first_past_limit (next_byte s) bs → Step s b bs
 
 is : (x y : ℕ) → (x == y) ≡ true → x ≡ y
 is x y e = (Decides-eqb x y).0 e
@@ -99,36 +100,36 @@ is x y e = (Decides-eqb x y).0 e
 isnt : (x y : ℕ) → (x == y) ≡ false → x ≡ y → ⊥
 isnt x y e same = let yes = (Decides-eqb x y).1 same in let no : ⊥ = cc in no
 
-column_test : (t : Bool) (s : Spot) (b : ℕ) (bs : List ℕ) → (s.column == line_limit) ≡ t → (s.at == file_limit) ≡ false → (b == 10) ≡ false → Step s b bs
+column_test : (t : Bool) (s : Spot) (b : ℕ) (bs : List ℕ) → (s.column == LINE_LIMIT) ≡ t → (s.at == FILE_LIMIT) ≡ false → (b == 10) ≡ false → Step s b bs
 unfolding first_past_limit next_byte
-column_test true s b bs c a l = past (isnt s.at file_limit a) l (is s.column line_limit c) (rw a (rw l (rw c refl)))
-column_test false s b bs c a l = longer (isnt s.at file_limit a) l (isnt s.column line_limit c) (rw a (rw l (rw c refl)))
+column_test true s b bs c a l = past (isnt s.at FILE_LIMIT a) l (is s.column LINE_LIMIT c) (rw a (rw l (rw c refl)))
+column_test false s b bs c a l = longer (isnt s.at FILE_LIMIT a) l (isnt s.column LINE_LIMIT c) (rw a (rw l (rw c refl)))
 
-feed_test : (t : Bool) (s : Spot) (b : ℕ) (bs : List ℕ) → (b == 10) ≡ t → (s.at == file_limit) ≡ false → Step s b bs
+feed_test : (t : Bool) (s : Spot) (b : ℕ) (bs : List ℕ) → (b == 10) ≡ t → (s.at == FILE_LIMIT) ≡ false → Step s b bs
 unfolding first_past_limit next_line
-feed_test true s b bs l a = ended (isnt s.at file_limit a) l (rw a (rw l refl))
-feed_test false s b bs l a = column_test (s.column == line_limit) s b bs refl a l
+feed_test true s b bs l a = ended (isnt s.at FILE_LIMIT a) l (rw a (rw l refl))
+feed_test false s b bs l a = column_test (s.column == LINE_LIMIT) s b bs refl a l
 
-size_test : (t : Bool) (s : Spot) (b : ℕ) (bs : List ℕ) → (s.at == file_limit) ≡ t → Step s b bs
+size_test : (t : Bool) (s : Spot) (b : ℕ) (bs : List ℕ) → (s.at == FILE_LIMIT) ≡ t → Step s b bs
 unfolding first_past_limit
-size_test true s b bs a = full (is s.at file_limit a) (rw a refl)
+size_test true s b bs a = full (is s.at FILE_LIMIT a) (rw a refl)
 size_test false s b bs a = feed_test (b == 10) s b bs refl a
 
 step_of : (s : Spot) (b : ℕ) (bs : List ℕ) → Step s b bs
-step_of s b bs = size_test (s.at == file_limit) s b bs refl
+step_of s b bs = size_test (s.at == FILE_LIMIT) s b bs refl
 
 -- a spot within the limits, behind these bytes of its line
 pub record IsBehind (s : Spot) (line : List ℕ) : Type 0 where
-  pub at : s.at ≤ file_limit
+  pub at : s.at ≤ FILE_LIMIT
   pub here : s.column ≡ length line
-  pub column : s.column ≤ line_limit
+  pub column : s.column ≤ LINE_LIMIT
   pub start : length line ≤ s.at
 
-behind_line : (s : Spot) (line : List ℕ) → IsBehind s line → (s.at ≡ file_limit → ⊥) → IsBehind (next_line s) []
+behind_line : (s : Spot) (line : List ℕ) → IsBehind s line → (s.at ≡ FILE_LIMIT → ⊥) → IsBehind (next_line s) []
 unfolding next_line
 behind_line s line h a = record { at = omega (arith, h.at, a); here = refl; column = omega arith; start = omega arith }
 
-behind_byte : (s : Spot) (line : List ℕ) (b : ℕ) → IsBehind s line → (s.at ≡ file_limit → ⊥) → (s.column ≡ line_limit → ⊥) → IsBehind (next_byte s) (line ++ b ∷ [])
+behind_byte : (s : Spot) (line : List ℕ) (b : ℕ) → IsBehind s line → (s.at ≡ FILE_LIMIT → ⊥) → (s.column ≡ LINE_LIMIT → ⊥) → IsBehind (next_byte s) (line ++ b ∷ [])
 unfolding next_byte
 behind_byte s line b h a c =
     let len = length-append line (b ∷ []) in
@@ -137,7 +138,7 @@ behind_byte s line b h a c =
 -- ---- no fault
 
 Fits : Spot → List ℕ → List ℕ → Type 0
-Fits s line bs = (s.at + length bs ≤ file_limit) × AreShort (lines_from line bs)
+Fits s line bs = (s.at + length bs ≤ FILE_LIMIT) × AreShort (lines_from line bs)
 
 fits_step : (s : Spot) (line : List ℕ) (b : ℕ) (bs : List ℕ) → IsBehind s line → Step s b bs
     → ((t : Spot) (l : List ℕ) → IsBehind t l → first_past_limit t bs ≡ None → Fits t l bs)
@@ -189,10 +190,10 @@ pub record IsLongFrom (start number : ℕ) (lines : List (List ℕ)) (n : ℕ) :
   pub cut : lines ≡ before ++ text ∷ after
   pub numbered : n ≡ number + length before
   pub short : AreShort before
-  pub long : line_limit < length text
-  pub first : start + size_of before + line_limit < file_limit
+  pub long : LINE_LIMIT < length text
+  pub first : start + size_of before + LINE_LIMIT < FILE_LIMIT
 
-one_later : (start number n : ℕ) (line : List ℕ) (lines : List (List ℕ)) → length line ≤ line_limit
+one_later : (start number n : ℕ) (line : List ℕ) (lines : List (List ℕ)) → length line ≤ LINE_LIMIT
     → IsLongFrom (start + length line + 1) (number + 1) lines n → IsLongFrom start number (line ∷ lines) n
 one_later start number n line lines short k = record {
   before = line ∷ k.before;
@@ -208,8 +209,8 @@ one_later start number n line lines short k = record {
 tail_of : {A : Type 0} (x y : A) (xs ys : List A) → x ∷ xs ≡ y ∷ ys → (x ≡ y) × (xs ≡ ys)
 tail_of x y xs ys e = (cc, cc)
 
-one_sooner : (start number n : ℕ) (line : List ℕ) (lines before : List (List ℕ)) (text : List ℕ) (after : List (List ℕ)) → length line ≤ line_limit
-    → line ∷ lines ≡ before ++ text ∷ after → n ≡ number + length before → AreShort before → line_limit < length text → start + size_of before + line_limit < file_limit
+one_sooner : (start number n : ℕ) (line : List ℕ) (lines before : List (List ℕ)) (text : List ℕ) (after : List (List ℕ)) → length line ≤ LINE_LIMIT
+    → line ∷ lines ≡ before ++ text ∷ after → n ≡ number + length before → AreShort before → LINE_LIMIT < length text → start + size_of before + LINE_LIMIT < FILE_LIMIT
     → IsLongFrom (start + length line + 1) (number + 1) lines n
 one_sooner start number n line lines [] text after fits cut numbered short long first =
     let e = tail_of line text lines after cut in
@@ -230,7 +231,7 @@ one_sooner start number n line lines (l ∷ before) text after fits cut numbered
     }
 
 -- the first line is the one
-at_first : (number n : ℕ) (first : List ℕ) (others before : List (List ℕ)) (text : List ℕ) (after : List (List ℕ)) → line_limit < length first
+at_first : (number n : ℕ) (first : List ℕ) (others before : List (List ℕ)) (text : List ℕ) (after : List (List ℕ)) → LINE_LIMIT < length first
     → first ∷ others ≡ before ++ text ∷ after → n ≡ number + length before → AreShort before → n ≡ number
 at_first number n first others [] text after long cut numbered short = omega (arith, numbered)
 at_first number n first others (l ∷ before) text after long cut numbered short =
@@ -240,8 +241,8 @@ at_first number n first others (l ∷ before) text after long cut numbered short
     absurd (omega (arith, long, len, head))
 
 -- where the file's limit has been reached, no line is too long before it
-none_left : (start : ℕ) (line first : List ℕ) (others before : List (List ℕ)) (text : List ℕ) (after : List (List ℕ)) → start + length line ≡ file_limit → length line ≤ line_limit
-    → length line ≤ length first → first ∷ others ≡ before ++ text ∷ after → start + size_of before + line_limit < file_limit → ⊥
+none_left : (start : ℕ) (line first : List ℕ) (others before : List (List ℕ)) (text : List ℕ) (after : List (List ℕ)) → start + length line ≡ FILE_LIMIT → length line ≤ LINE_LIMIT
+    → length line ≤ length first → first ∷ others ≡ before ++ text ∷ after → start + size_of before + LINE_LIMIT < FILE_LIMIT → ⊥
 none_left start line first others [] text after there small least cut early = omega (arith, there, small, early)
 none_left start line first others (l ∷ before) text after there small least cut early =
     let e = tail_of first l others (before ++ text ∷ after) cut in
@@ -298,7 +299,7 @@ from_step s line b bs start n h here (ended a l e) rest k =
 from_step s line b bs start n h here (past a l c e) rest k =
     let longer : List ℕ = line ++ b ∷ [] in
     let f = has_first bs longer in
-    let long : line_limit < length f.first = omega (arith, f.least, length-append line (b ∷ []), h.here, c) in
+    let long : LINE_LIMIT < length f.first = omega (arith, f.least, length-append line (b ∷ []), h.here, c) in
     let same = at_first s.line n f.first f.others k.before k.text k.after long (sym (lines_longer line b bs l ∙ f.cut) ∙ k.cut) k.numbered k.short in
     e ∙ ap (λ (m : ℕ). Some (LineTooLong m)) (sym same)
 from_step s line b bs start n h here (longer a l c e) rest k =
@@ -317,15 +318,15 @@ from_long (b ∷ bs) n s line start h here k = from_step s line b bs start n h h
 -- ---- a file that is too large
 
 large_step : (s : Spot) (line : List ℕ) (b : ℕ) (bs : List ℕ) (z : ℕ) → IsBehind s line → Step s b bs
-    → ((t : Spot) (l : List ℕ) → IsBehind t l → first_past_limit t bs ≡ Some (FileTooLarge z) → file_limit < t.at + length bs)
-    → first_past_limit s (b ∷ bs) ≡ Some (FileTooLarge z) → file_limit < s.at + length (b ∷ bs)
+    → ((t : Spot) (l : List ℕ) → IsBehind t l → first_past_limit t bs ≡ Some (FileTooLarge z) → FILE_LIMIT < t.at + length bs)
+    → first_past_limit s (b ∷ bs) ≡ Some (FileTooLarge z) → FILE_LIMIT < s.at + length (b ∷ bs)
 unfolding next_line next_byte
 large_step s line b bs z h (full at e) rest fault = omega (arith, at)
 large_step s line b bs z h (ended a l e) rest fault = omega (arith, rest (next_line s) [] (behind_line s line h a) (sym e ∙ fault))
 large_step s line b bs z h (past a l c e) rest fault = absurd cc
 large_step s line b bs z h (longer a l c e) rest fault = omega (arith, rest (next_byte s) (line ++ b ∷ []) (behind_byte s line b h a c) (sym e ∙ fault))
 
-large_size : (bs : List ℕ) (z : ℕ) (s : Spot) (line : List ℕ) → IsBehind s line → first_past_limit s bs ≡ Some (FileTooLarge z) → file_limit < s.at + length bs
+large_size : (bs : List ℕ) (z : ℕ) (s : Spot) (line : List ℕ) → IsBehind s line → first_past_limit s bs ≡ Some (FileTooLarge z) → FILE_LIMIT < s.at + length bs
 unfolding first_past_limit
 large_size [] z s line h fault = absurd cc
 large_size (b ∷ bs) z s line h fault = large_step s line b bs z h (step_of s b bs) (large_size bs z) fault
@@ -388,7 +389,7 @@ checked-long file n = (
   λ w. ap (λ (o : Option ReadError). file_unless o file) (long_fault file n w),
 )
 
-large_case : (file : List ℕ) (o : Option ReadError) → first_past_limit beginning file ≡ o → IfFault o → IsTooLarge file → file_unless o file ≡ Err (FileTooLarge (file_limit + 1))
+large_case : (file : List ℕ) (o : Option ReadError) → first_past_limit beginning file ≡ o → IfFault o → IsTooLarge file → file_unless o file ≡ Err (FileTooLarge (FILE_LIMIT + 1))
 unfolding Fits
 large_case file None e f w = let fits = fits_none file beginning [] behind_none e in absurd (omega (arith, fits.0, w.size))
 large_case file (Some (FileTooLarge size)) e f w = ap (λ (z : ℕ). Err (FileTooLarge z)) f
@@ -398,13 +399,13 @@ large_case file (Some x) e f w = absurd f
 two_faults : (file : List ℕ) (z n : ℕ) → first_past_limit beginning file ≡ Some (FileTooLarge z) → first_past_limit beginning file ≡ Some (LineTooLong n) → ⊥
 two_faults file z n e f = let no : ⊥ = cc in no
 
-pub checked-large : (file : List ℕ) → (checked file ≡ Err (FileTooLarge (file_limit + 1)) → IsTooLarge file) × (IsTooLarge file → checked file ≡ Err (FileTooLarge (file_limit + 1)))
+pub checked-large : (file : List ℕ) → (checked file ≡ Err (FileTooLarge (FILE_LIMIT + 1)) → IsTooLarge file) × (IsTooLarge file → checked file ≡ Err (FileTooLarge (FILE_LIMIT + 1)))
 checked-large file = (
   λ e.
-      let fault = unless_some (first_past_limit beginning file) file (FileTooLarge (file_limit + 1)) e in
+      let fault = unless_some (first_past_limit beginning file) file (FileTooLarge (FILE_LIMIT + 1)) e in
       record {
-        size = omega (arith, large_size file (file_limit + 1) beginning [] behind_none fault);
-        no_line = λ n w. two_faults file (file_limit + 1) n fault (long_fault file n w);
+        size = omega (arith, large_size file (FILE_LIMIT + 1) beginning [] behind_none fault);
+        no_line = λ n w. two_faults file (FILE_LIMIT + 1) n fault (long_fault file n w);
       },
   λ w. large_case file (first_past_limit beginning file) refl (first_faults file beginning) w,
 )

@@ -5,6 +5,7 @@ use Rattle.std.specs.declared.option.Option.TheVariants.{Some, None}
 use Rattle.std.specs.Option.{option_map}
 use Rattle.loda_syntax.specs.declared.instr.Operand.{Operand}
 use Rattle.loda_syntax.specs.declared.instr.Operand.TheVariants.{Constant, Direct, Indirect}
+use Rattle.loda_syntax.specs.declared.instr.TheConstants.{MEMORY_CELLS}
 
 -- what each cell holds
 abbrev pub Memory : Type 0
@@ -24,7 +25,7 @@ clear_cells m start count c = if not (nat_lt c start) && nat_lt c (start + count
 
 -- the cell whose address a number is; none outside of 0 to 4095
 abbrev pub cell_at : ℤ → Option ℕ
-cell_at (pos a) = if nat_lt a 4096 then Some a else None
+cell_at (pos a) = if nat_lt a MEMORY_CELLS then Some a else None
 cell_at (negsuc a) = None
 
 -- the cell that an operand names; none for a constant, and where an indirect one leads outside

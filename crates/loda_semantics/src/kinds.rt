@@ -19,6 +19,9 @@ pub enum FaultKind {
     Missing,
 }
 
+/// The word that outputs have for a run whose steps were spent before its end.
+pub const OUT_OF_STEPS: &str = "out-of-steps";
+
 impl From<NumFault> for FaultKind {
     ghost from_gives = { λ fault kind. kind ≡ fault_of fault };
 

@@ -14,12 +14,14 @@ use Rattle.loda_syntax.specs.declared.error.ParseError.TheVariants as errors
 use Rattle.loda_syntax.specs.WellFormed.{IsProgram, IsBalanced, open_loops}
 use Rattle.loda_syntax.specs.Programs.{Text}
 use Rattle.loda_syntax.specs.Lines.{text_lines}
-use Rattle.loda_syntax.specs.Grammar.{◌>>=◌, line_read}
+use Rattle.text_parts.specs.Results.{◌>>=◌}
+use Rattle.loda_syntax.specs.Grammar.{line_read}
 use Rattle.loda_syntax.specs.Reading.{Draft, IsDraft, TextFault, open_after, add_last, draft_of, with_instr, with_line, fault_at, with_lines, closed, closed_by, empty_draft, text_read}
 use Rattle.loda_syntax.specs.Answers.{ParsesAs, ParseFails}
 use Rattle.loda_syntax.specs.Laws.{Stand, IsTextOf, Begin, IsFirstFault, BadLine, OpenLine, BadText, IsCause}
 use Rattle.loda_syntax.proofs.Drafts.{next_draft, blank_draft, open_more, opened, balanced, program_of, at_line, one_line}
 use Rattle.loda_syntax.proofs.Results.{IfOk-at}
+use Rattle.loda_syntax.specs.declared.instr.TheConstants.{MOST_INSTRS}
 
 -- ---- a value that was bound
 
@@ -40,7 +42,7 @@ stand_more text texts i is e s = record { read = Some i ∷ s.read; each = rw (e
 
 -- what a line's instruction does to a draft
 pub record Goes (line : ℕ) (d : Draft) (i : Instr) (next : Draft) : Type 0 where
-  pub few : length d.list < 1000
+  pub few : length d.list < MOST_INSTRS
   pub opens : open_after line i d.open_at ≡ Ok next.open_at
   pub list : next.list ≡ d.list ++ i ∷ []
 
@@ -52,9 +54,9 @@ pub goes : (line : ℕ) (d : Draft) (i : Instr) (next : Draft) → with_instr li
 unfolding with_instr
 goes line d i next e =
     let b = bound (open_after line i d.open_at) (add_last d.list i) next e in
-    let a = added (nat_lt (length d.list) 1000) d.list i b.0 next b.2 in
+    let a = added (nat_lt (length d.list) MOST_INSTRS) d.list i b.0 next b.2 in
     record {
-      few = ltb-true (length d.list) 1000 a.0;
+      few = ltb-true (length d.list) MOST_INSTRS a.0;
       opens = b.1 ∙ ap (λ (n : Draft). Ok n.open_at) a.1;
       list = sym (ap (λ (n : Draft). n.list) a.1);
     }
@@ -182,9 +184,9 @@ no_room false x kind e = (refl, cc)
 
 instr_fault : (line : ℕ) (d : Draft) (i : Instr) (kind : SyntaxKind) → IsDraft d → (r : Result (List ℕ) SyntaxKind) → open_after line i d.open_at ≡ r → (r >>= add_last d.list i) ≡ Err kind → IsFirstFault d.list (Ok (Some i)) kind
 instr_fault line d i kind is (Ok o) opens e =
-    let n = no_room (nat_lt (length d.list) 1000) (draft_of (d.list ++ i ∷ []) o) kind e in
+    let n = no_room (nat_lt (length d.list) MOST_INSTRS) (draft_of (d.list ++ i ∷ []) o) kind e in
     let loops : open_loops 0 (d.list ++ i ∷ []) ≡ Some (length o) = open_more d.list 0 (length d.open_at) i is.loops ∙ IfOk-at (open_after line i d.open_at) o _ opens (opened line i d.open_at) in
-    inr (rw loops refl, ltb-false (length d.list) 1000 n.0, n.1)
+    inr (rw loops refl, ltb-false (length d.list) MOST_INSTRS n.0, n.1)
 instr_fault line d i kind is (Err k) opens e =
     let same : k ≡ kind = cc in
     let c = closes line i d.open_at k opens in

@@ -10,11 +10,13 @@ use Rattle.loda_syntax.specs.declared.error.SyntaxKind.TheVariants as kinds
 use Rattle.loda_syntax.specs.declared.error.ParseError.{ParseError}
 use Rattle.loda_syntax.specs.declared.error.ParseError.TheVariants as errors
 use Rattle.loda_syntax.specs.WellFormed.{IsInstr, IsProgram, IsBalanced, open_loops}
-use Rattle.loda_syntax.specs.Grammar.{◌>>=◌, line_read}
+use Rattle.text_parts.specs.Results.{◌>>=◌}
+use Rattle.loda_syntax.specs.Grammar.{line_read}
 use Rattle.loda_syntax.specs.Reading.{Draft, IsDraft, TextFault, open_after, add_last, draft_of, with_instr, with_line, fault_at, with_lines, empty_draft}
 use Rattle.loda_syntax.specs.Answers.{ParseFails}
 use Rattle.loda_syntax.proofs.Results.{IfOk-bind, IfOk-cond, IfOk-at}
 use Rattle.loda_syntax.proofs.Formed.{line_good}
+use Rattle.loda_syntax.specs.declared.instr.TheConstants.{MOST_INSTRS}
 
 -- ---- faults with their lines
 
@@ -58,20 +60,20 @@ pub past : {A E : Type 0} (t : Bool) (x : A) (e : E) → t ≡ false → cond t 
 past true x e h = absurd cc
 past false x e h = refl
 
-pub with_one : (line : ℕ) (d : Draft) (i : Instr) (o : List ℕ) → fault_at line (open_after line i d.open_at) ≡ Ok o → length d.list < 1000
+pub with_one : (line : ℕ) (d : Draft) (i : Instr) (o : List ℕ) → fault_at line (open_after line i d.open_at) ≡ Ok o → length d.list < MOST_INSTRS
     → fault_at line (with_instr line d (Some i)) ≡ Ok (record { list = d.list ++ i ∷ []; open_at = o })
 unfolding with_instr
 with_one line d i o e lt =
     let is = at_line line (open_after line i d.open_at) o e in
-    let fits = within (nat_lt (length d.list) 1000) (draft_of (d.list ++ i ∷ []) o) kinds.TooLong (lt-ltb (length d.list) 1000 lt) in
+    let fits = within (nat_lt (length d.list) MOST_INSTRS) (draft_of (d.list ++ i ∷ []) o) kinds.TooLong (lt-ltb (length d.list) MOST_INSTRS lt) in
     rw (is, fits) refl
 
-pub one_too_many : (line : ℕ) (d : Draft) (i : Instr) (o : List ℕ) → fault_at line (open_after line i d.open_at) ≡ Ok o → 1000 ≤ length d.list
+pub one_too_many : (line : ℕ) (d : Draft) (i : Instr) (o : List ℕ) → fault_at line (open_after line i d.open_at) ≡ Ok o → MOST_INSTRS ≤ length d.list
     → fault_at line (with_instr line d (Some i)) ≡ Err (record { line = line; kind = kinds.TooLong })
 unfolding with_instr
 one_too_many line d i o e le =
     let is = at_line line (open_after line i d.open_at) o e in
-    let full = past (nat_lt (length d.list) 1000) (draft_of (d.list ++ i ∷ []) o) kinds.TooLong (le-ltb (length d.list) 1000 le) in
+    let full = past (nat_lt (length d.list) MOST_INSTRS) (draft_of (d.list ++ i ∷ []) o) kinds.TooLong (le-ltb (length d.list) MOST_INSTRS le) in
     rw (is, full) refl
 
 -- ---- what a draft keeps
@@ -95,7 +97,7 @@ opened line (Call t q) o = refl
 
 one_more : (d : Draft) (i : Instr) (o : List ℕ) → IsDraft d → IsInstr i → open_loops (length d.open_at) (i ∷ []) ≡ Some (length o) → IfOk (add_last d.list i o) IsDraft
 one_more d i o is good loops =
-    IfOk-cond (nat_lt (length d.list) 1000) (draft_of (d.list ++ i ∷ []) o) kinds.TooLong IsDraft (λ e. let lt = ltb-true (length d.list) 1000 e in
+    IfOk-cond (nat_lt (length d.list) MOST_INSTRS) (draft_of (d.list ++ i ∷ []) o) kinds.TooLong IsDraft (λ e. let lt = ltb-true (length d.list) MOST_INSTRS e in
     record {
       short = simp length-append (omega arith);
       each = All-push IsInstr d.list i is.each good;

@@ -17,8 +17,11 @@ use Rattle.loda_syntax.specs.WellFormed.{IsSource, IsTarget, IsInstr}
 use Rattle.loda_syntax.specs.Lines.{content, word_of, operands_of}
 use Rattle.loda_syntax.specs.Words.{word_read}
 use Rattle.text_parts.specs.Digits.{number_spelled}
-use Rattle.loda_syntax.specs.Grammar.{◌>>=◌, signed_by, in_memory, cell_of, with_cell, signed_read, after_dollar, operand_read, good_operand, all_read, operands_read, loop_over, clear_of, call_of, instr_read, content_read, of_content, line_read, least_operands, most_operands}
+use Rattle.text_parts.specs.Results.{◌>>=◌}
+use Rattle.loda_syntax.specs.Grammar.{signed_by, in_memory, cell_of, with_cell, signed_read, after_dollar, operand_read, good_operand, all_read, operands_read, loop_over, clear_of, call_of, instr_read, content_read, of_content, line_read, least_operands, most_operands}
 use Rattle.loda_syntax.proofs.Results.{IfOk-bind, IfOk-cond}
+use Rattle.text_parts.specs.declared.names.TheConstants.{GREATEST_NAME}
+use Rattle.loda_syntax.specs.declared.instr.TheConstants.{MEMORY_CELLS}
 
 -- each operand is in range
 abbrev pub Sources : List Operand → Type 0
@@ -45,9 +48,9 @@ cell_test : (t : Bool) (c : ℕ) (form : ℕ → Operand) → (t ≡ true → Is
 cell_test true c form h = h refl
 cell_test false c form h = tt
 
-cell_good : (form : ℕ → Operand) → ((c : ℕ) → c < 4096 → IsSource (form c)) → (o : Option ℕ) → IsGood (with_cell form (in_memory o))
+cell_good : (form : ℕ → Operand) → ((c : ℕ) → c < MEMORY_CELLS → IsSource (form c)) → (o : Option ℕ) → IsGood (with_cell form (in_memory o))
 cell_good form h None = tt
-cell_good form h (Some c) = cell_test (nat_lt c 4096) c form (λ e. h c (ltb-true c 4096 e))
+cell_good form h (Some c) = cell_test (nat_lt c MEMORY_CELLS) c form (λ e. h c (ltb-true c MEMORY_CELLS e))
 
 abs_signed : (minus : Bool) (n : ℕ) → unsigned_abs (signed_by minus n) ≡ n
 abs_signed true zero = refl
@@ -92,21 +95,21 @@ operands_good least most texts = tests_good _ _ _ (filter_good (map operand_read
 
 loop_good : (c : ℕ) (n : ℤ) → IfOk (loop_over c n) IsInstr
 loop_good c (pos n) =
-    IfOk-cond (nat_le 1 n && nat_le n 64 && nat_le (c + n) 4096) (instr.LoopStart c n) kinds.BadOperand IsInstr (λ e. let a = and_parts (nat_le 1 n && nat_le n 64) (nat_le (c + n) 4096) e in
+    IfOk-cond (nat_le 1 n && nat_le n 64 && nat_le (c + n) MEMORY_CELLS) (instr.LoopStart c n) kinds.BadOperand IsInstr (λ e. let a = and_parts (nat_le 1 n && nat_le n 64) (nat_le (c + n) MEMORY_CELLS) e in
     let b = and_parts (nat_le 1 n) (nat_le n 64) a.0 in
-    (leb-true 1 n b.0, leb-true n 64 b.1, leb-true (c + n) 4096 a.1))
+    (leb-true 1 n b.0, leb-true n 64 b.1, leb-true (c + n) MEMORY_CELLS a.1))
 loop_good c (negsuc n) = tt
 
-clear_good : (c : ℕ) (n : ℤ) → c < 4096 → IfOk (clear_of c n) IsInstr
+clear_good : (c : ℕ) (n : ℤ) → c < MEMORY_CELLS → IfOk (clear_of c n) IsInstr
 clear_good c (pos n) h =
-    IfOk-cond (nat_le n 1024 && nat_le (c + n) 4096) (instr.Clear c n) kinds.BadOperand IsInstr (λ e. let a = and_parts (nat_le n 1024) (nat_le (c + n) 4096) e in
-    (leb-true n 1024 a.0, leb-true (c + n) 4096 a.1, h))
+    IfOk-cond (nat_le n 1024 && nat_le (c + n) MEMORY_CELLS) (instr.Clear c n) kinds.BadOperand IsInstr (λ e. let a = and_parts (nat_le n 1024) (nat_le (c + n) MEMORY_CELLS) e in
+    (leb-true n 1024 a.0, leb-true (c + n) MEMORY_CELLS a.1, h))
 clear_good c (negsuc n) h = tt
 
 call_good : (t : Operand) (n : ℤ) → IsTarget t → IfOk (call_of t n) IsInstr
 call_good t (pos n) h =
-    IfOk-cond (nat_le 1 n && nat_le n 999999) (instr.Call t n) kinds.BadOperand IsInstr (λ e. let a = and_parts (nat_le 1 n) (nat_le n 999999) e in
-    (h, leb-true 1 n a.0, leb-true n 999999 a.1))
+    IfOk-cond (nat_le 1 n && nat_le n GREATEST_NAME) (instr.Call t n) kinds.BadOperand IsInstr (λ e. let a = and_parts (nat_le 1 n) (nat_le n GREATEST_NAME) e in
+    (h, leb-true 1 n a.0, leb-true n GREATEST_NAME a.1))
 call_good t (negsuc n) h = tt
 
 pub instr_good : (w : Word) (os : List Operand) → Sources os → IfOk (instr_read w os) IsInstr

@@ -17,6 +17,7 @@ use Rattle.loda_syntax.specs.Laws.{Stand, IsTextOf, IsFirstFault, BadLine, OpenL
 use Rattle.loda_syntax.proofs.Drafts.{open_more, at_line, one_line, bad_line, no_instr, some_instr, with_one, past}
 use Rattle.loda_syntax.proofs.Causes.{goes, first, reads, faults, through_arith, through_clear, through_call}
 use Rattle.loda_syntax.proofs.Round.{reads_back}
+use Rattle.loda_syntax.specs.declared.instr.TheConstants.{MOST_INSTRS}
 
 -- ---- lines and their instructions
 
@@ -87,7 +88,7 @@ on_from line d next text texts is all loops one same r = record {
   open_at = r.open_at;
 }
 
-reaches : (line : ℕ) (d : Draft) (texts : List (List ℕ)) (is : List Instr) (loops : ℕ) → Stand texts is → open_loops (length d.open_at) is ≡ Some loops → length d.list + length is ≤ 1000 → Reaches line d texts is loops
+reaches : (line : ℕ) (d : Draft) (texts : List (List ℕ)) (is : List Instr) (loops : ℕ) → Stand texts is → open_loops (length d.open_at) is ≡ Some loops → length d.list + length is ≤ MOST_INSTRS → Reaches line d texts is loops
 unfolding with_lines
 reaches line d [] is loops stand e few =
     let none = none_stand is stand in
@@ -95,15 +96,15 @@ reaches line d [] is loops stand e few =
     record { draft = d; reads = refl; list = rw none (sym (append-nil d.list)); open_at = cc }
 reaches line d (text ∷ texts) is loops stand e few = let u = uncons text texts is stand in reaches_by line d text texts is loops u.instr u.rest u.read u.stand u.list e few (λ next. reaches (line + 1) next texts u.rest loops u.stand)
   where
-    reaches_by : (line : ℕ) (d : Draft) (text : List ℕ) (texts : List (List ℕ)) (is : List Instr) (loops : ℕ) (o : Option Instr) (rest : List Instr) → line_read text ≡ Ok o → Stand texts rest → is ≡ onto o rest → open_loops (length d.open_at) is ≡ Some loops → length d.list + length is ≤ 1000
-        → ((next : Draft) → open_loops (length next.open_at) rest ≡ Some loops → length next.list + length rest ≤ 1000 → Reaches (line + 1) next texts rest loops) → Reaches line d (text ∷ texts) is loops
+    reaches_by : (line : ℕ) (d : Draft) (text : List ℕ) (texts : List (List ℕ)) (is : List Instr) (loops : ℕ) (o : Option Instr) (rest : List Instr) → line_read text ≡ Ok o → Stand texts rest → is ≡ onto o rest → open_loops (length d.open_at) is ≡ Some loops → length d.list + length is ≤ MOST_INSTRS
+        → ((next : Draft) → open_loops (length next.open_at) rest ≡ Some loops → length next.list + length rest ≤ MOST_INSTRS → Reaches (line + 1) next texts rest loops) → Reaches line d (text ∷ texts) is loops
     reaches_by line d text texts is loops None rest read stand list e few rec =
         let same : open_loops (length d.open_at) rest ≡ Some loops = ap (open_loops (length d.open_at)) (sym list) ∙ e in
-        let size : length d.list + length rest ≤ 1000 = rw list at few in
+        let size : length d.list + length rest ≤ MOST_INSTRS = rw list at few in
         on_from line d d text texts rest is loops (no_instr line d text read) (ap (λ (js : List Instr). d.list ++ js) (sym list)) (rec d same size)
     reaches_by line d text texts is loops (Some i) rest read stand list e few rec =
         let n = next_open line i d.open_at rest loops (ap (open_loops (length d.open_at)) (sym list) ∙ e) in
-        let size : length d.list + length (i ∷ rest) ≤ 1000 = rw list at few in
+        let size : length d.list + length (i ∷ rest) ≤ MOST_INSTRS = rw list at few in
         let next = draft_of (d.list ++ i ∷ []) n.next in
         let one : fault_at line (with_line line d text) ≡ Ok next = ap (fault_at line) (some_instr line d text i read) ∙ with_one line d i n.next (ap (fault_at line) n.opens) (omega arith) in
         on_from line d next text texts rest is loops one (append_assoc d.list (i ∷ []) rest ∙ ap (λ (js : List Instr). d.list ++ js) (sym list)) (rec next n.left (simp length-append (omega arith)))
@@ -168,7 +169,7 @@ bad_instr line d text i kind loops read (inl h) =
 bad_instr line d text i kind loops read (inr h) =
     let k = some_of (open_loops 0 (d.list ++ i ∷ [])) h.0 in
     let n = next_open line i d.open_at [] k.0 (sym (open_more d.list 0 (length d.open_at) i loops) ∙ k.1) in
-    let full = past (nat_lt (length d.list) 1000) (draft_of (d.list ++ i ∷ []) n.next) kinds.TooLong (le-ltb (length d.list) 1000 h.1) in
+    let full = past (nat_lt (length d.list) MOST_INSTRS) (draft_of (d.list ++ i ∷ []) n.next) kinds.TooLong (le-ltb (length d.list) MOST_INSTRS h.1) in
     some_instr line d text i read ∙ rw (n.opens, full, h.2) refl
 
 first_fault_so : (line : ℕ) (d : Draft) (text : List ℕ) (kind : SyntaxKind) (loops : open_loops 0 d.list ≡ Some (length d.open_at)) → (r : Result (Option Instr) SyntaxKind) → line_read text ≡ r → IsFirstFault d.list r kind → with_line line d text ≡ Err kind

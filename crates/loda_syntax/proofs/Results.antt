@@ -1,7 +1,7 @@
 -- What holds of a value that was read, if it was.
 use Rattle.std.proofs.Common.{◌≡◌, Bool, true, false, cond, refl}
 use Rattle.std.specs.Prelude.{Result, Ok, Err, IfOk}
-use Rattle.loda_syntax.specs.Grammar.{◌>>=◌}
+use Rattle.text_parts.specs.Results.{◌>>=◌}
 
 pub IfOk-bind : {A B E : Type 0} (r : Result A E) (f : A → Result B E) (P : A → Type 0) (Q : B → Type 0) → IfOk r P → ((x : A) → P x → IfOk (f x) Q) → IfOk (r >>= f) Q
 IfOk-bind (Ok x) f P Q h then = then x h

@@ -27,6 +27,8 @@ use Rattle.loda_syntax.specs.Canon.{operand_text, operand_texts, instr_word, ins
 use Rattle.loda_syntax.proofs.Operands.{comma}
 use Rattle.loda_syntax.proofs.Drafts.{with_one, some_instr, no_instr, one_line}
 use Rattle.loda_syntax.proofs.Bytes.{No, No-plain, before_all, before_here, after_here, split_here, split_all, IsPlain, Plain, plain_by_test, plain_blank, IsDecimal, decimal_is, IsEdged, edged_plain, trim_edged, trim_indented, Inner, Inner-append, Inner-plain, Inner-spaces, inner_space, inner_comma, No-newline, No-semicolon, return_kept}
+use Rattle.text_parts.specs.declared.names.TheConstants.{GREATEST_NAME}
+use Rattle.loda_syntax.specs.declared.instr.TheConstants.{MEMORY_CELLS, MOST_INSTRS}
 
 -- ---- operands
 
@@ -59,8 +61,8 @@ indirect_back c ds d = rw d.value refl
 pub operand_back : (o : Operand) → IsSource o → operand_read (operand_text o) ≡ Good o
 operand_back (Constant (pos n)) h = constant_back n (decimal n) (decimal_is n (omega arith)) ∙ rw (lt-ltb n (2 ^ 127) h) refl
 operand_back (Constant (negsuc n)) h = minus_back (suc n) (decimal (suc n)) (decimal_is (suc n) (omega arith)) ∙ rw (lt-ltb (suc n) (2 ^ 127) h) refl
-operand_back (Direct c) h = direct_back c (decimal c) (decimal_is c (omega arith)) ∙ rw (lt-ltb c 4096 h) refl
-operand_back (Indirect c) h = indirect_back c (decimal c) (decimal_is c (omega arith)) ∙ rw (lt-ltb c 4096 h) refl
+operand_back (Direct c) h = direct_back c (decimal c) (decimal_is c (omega arith)) ∙ rw (lt-ltb c MEMORY_CELLS h) refl
+operand_back (Indirect c) h = indirect_back c (decimal c) (decimal_is c (omega arith)) ∙ rw (lt-ltb c MEMORY_CELLS h) refl
 
 plain_dollar : IsPlain 36
 plain_dollar = record { high = omega arith; no_comma = λ e. omega arith; no_semicolon = λ e. omega arith }
@@ -291,40 +293,40 @@ arith_written v (Constant n) s h k = absurd h
 arith_written v (Direct c) s h k = with_two (Arith v (Direct c) s) (word.Operation v) (Direct c) s refl refl h k (read_two (Direct c) s h k) refl
 arith_written v (Indirect c) s h k = with_two (Arith v (Indirect c) s) (word.Operation v) (Indirect c) s refl refl h k (read_two (Indirect c) s h k) refl
 
-call_back : (t : Operand) (q : ℕ) → 1 ≤ q → q ≤ 999999 → call_of t (pos q) ≡ Ok (Call t q)
-call_back t q low high = rw (le-leb 1 q low, le-leb q 999999 high) refl
+call_back : (t : Operand) (q : ℕ) → 1 ≤ q → q ≤ GREATEST_NAME → call_of t (pos q) ≡ Ok (Call t q)
+call_back t q low high = rw (le-leb 1 q low, le-leb q GREATEST_NAME high) refl
 
-call_written : (t : Operand) (q : ℕ) → IsTarget t → 1 ≤ q → q ≤ 999999 → IsWritten (Call t q)
+call_written : (t : Operand) (q : ℕ) → IsTarget t → 1 ≤ q → q ≤ GREATEST_NAME → IsWritten (Call t q)
 unfolding instr_read
 call_written (Constant n) q h low high = absurd h
 call_written (Direct c) q h low high = let s : q < 2 ^ 127 = omega arith in with_two (Call (Direct c) q) word.Call (Direct c) (Constant (pos q)) refl refl h s (read_two (Direct c) (Constant (pos q)) h s) (call_back (Direct c) q low high)
 call_written (Indirect c) q h low high = let s : q < 2 ^ 127 = omega arith in with_two (Call (Indirect c) q) word.Call (Indirect c) (Constant (pos q)) refl refl h s (read_two (Indirect c) (Constant (pos q)) h s) (call_back (Indirect c) q low high)
 
-clear_back : (c n : ℕ) → n ≤ 1024 → c + n ≤ 4096 → clear_of c (pos n) ≡ Ok (Clear c n)
-clear_back c n most end = rw (le-leb n 1024 most, le-leb (c + n) 4096 end) refl
+clear_back : (c n : ℕ) → n ≤ 1024 → c + n ≤ MEMORY_CELLS → clear_of c (pos n) ≡ Ok (Clear c n)
+clear_back c n most end = rw (le-leb n 1024 most, le-leb (c + n) MEMORY_CELLS end) refl
 
-loop_back : (c n : ℕ) → 1 ≤ n → n ≤ 64 → c + n ≤ 4096 → loop_over c (pos n) ≡ Ok (LoopStart c n)
-loop_back c n low high end = rw (le-leb 1 n low, le-leb n 64 high, le-leb (c + n) 4096 end) refl
+loop_back : (c n : ℕ) → 1 ≤ n → n ≤ 64 → c + n ≤ MEMORY_CELLS → loop_over c (pos n) ≡ Ok (LoopStart c n)
+loop_back c n low high end = rw (le-leb 1 n low, le-leb n 64 high, le-leb (c + n) MEMORY_CELLS end) refl
 
-clear_written : (c n : ℕ) → n ≤ 1024 → c + n ≤ 4096 → c < 4096 → IsWritten (Clear c n)
+clear_written : (c n : ℕ) → n ≤ 1024 → c + n ≤ MEMORY_CELLS → c < MEMORY_CELLS → IsWritten (Clear c n)
 unfolding instr_read
 clear_written c n most end cell = let s : n < 2 ^ 127 = omega arith in with_two (Clear c n) word.Clear (Direct c) (Constant (pos n)) refl refl cell s (read_two (Direct c) (Constant (pos n)) cell s) (clear_back c n most end)
 
-loop_of_one : (c : ℕ) → c + 1 ≤ 4096 → IsWritten (LoopStart c 1)
+loop_of_one : (c : ℕ) → c + 1 ≤ MEMORY_CELLS → IsWritten (LoopStart c 1)
 unfolding instr_read instr_text
-loop_of_one c end = let cell : c < 4096 = omega arith in record {
+loop_of_one c end = let cell : c < MEMORY_CELLS = omega arith in record {
   is = subst (λ (t : List ℕ). IsContent t word.LoopStart (Direct c ∷ [])) (sym (one_texts word.LoopStart (Direct c))) (with_one_operand (Direct c) cell);
   back = loop_back c 1 (omega arith) (omega arith) end;
 }
 
-loop_of_more : (c n : ℕ) → nat_eq n 1 ≡ false → 1 ≤ n → n ≤ 64 → c + n ≤ 4096 → IsWritten (LoopStart c n)
+loop_of_more : (c n : ℕ) → nat_eq n 1 ≡ false → 1 ≤ n → n ≤ 64 → c + n ≤ MEMORY_CELLS → IsWritten (LoopStart c n)
 unfolding instr_read
 loop_of_more c n e low high end =
-    let cell : c < 4096 = omega arith in
+    let cell : c < MEMORY_CELLS = omega arith in
     let s : n < 2 ^ 127 = omega arith in
     with_two (LoopStart c n) word.LoopStart (Direct c) (Constant (pos n)) refl (rw e refl) cell s (read_either (Direct c) (Constant (pos n)) cell s) (loop_back c n low high end)
 
-loop_by : (c n : ℕ) → (b : Bool) → nat_eq n 1 ≡ b → 1 ≤ n → n ≤ 64 → c + n ≤ 4096 → IsWritten (LoopStart c n)
+loop_by : (c n : ℕ) → (b : Bool) → nat_eq n 1 ≡ b → 1 ≤ n → n ≤ 64 → c + n ≤ MEMORY_CELLS → IsWritten (LoopStart c n)
 loop_by c n true e low high end = let one : 1 ≡ n = sym (eqb-true n 1 e) in subst (λ (k : ℕ). IsWritten (LoopStart c k)) one (loop_of_one c (omega arith))
 loop_by c n false e low high end = loop_of_more c n e low high end
 
@@ -409,7 +411,7 @@ last_line line d none =
     let same : d ≡ draft_of (d.list ++ []) [] = ap (λ (is : List Instr). draft_of is d.open_at) (sym (append-nil d.list)) ∙ ap (draft_of (d.list ++ [])) (no_open d.open_at none) in
     one_line line d d [] [] (no_instr line d [] empty_back) ∙ ap (λ (x : Draft). Ok x) same
 
-lines_back : (is : List Instr) (line depth : ℕ) (d : Draft) → length d.open_at ≡ depth → IsBalanced depth is → All IsInstr is → length d.list + length is ≤ 1000 → with_lines line d (text_lines (lines_text depth is)) ≡ Ok (draft_of (d.list ++ is) [])
+lines_back : (is : List Instr) (line depth : ℕ) (d : Draft) → length d.open_at ≡ depth → IsBalanced depth is → All IsInstr is → length d.list + length is ≤ MOST_INSTRS → with_lines line d (text_lines (lines_text depth is)) ≡ Ok (draft_of (d.list ++ is) [])
 unfolding lines_text line_text
 lines_back [] line depth d e balanced all few = let zero_depth : depth ≡ 0 = balanced in last_line line d (e ∙ zero_depth)
 lines_back (i ∷ is) line depth d e balanced all few =
@@ -423,7 +425,7 @@ lines_back (i ∷ is) line depth d e balanced all few =
     let one : fault_at line (with_line line d text) ≡ Ok next =
     ap (fault_at line) (some_instr line d text i (line_back (2 * depth_at depth i) i good)) ∙ with_one line d i o.next (ap (fault_at line) o.opens) (omega arith) in
     let deeper : length o.next ≡ depth_after depth i = o.depth ∙ ap (λ (k : ℕ). depth_after k i) e in
-    let size : length (d.list ++ i ∷ []) + length is ≤ 1000 = simp length-append (omega arith) in
+    let size : length (d.list ++ i ∷ []) + length is ≤ MOST_INSTRS = simp length-append (omega arith) in
     let left = lines_back is (line + 1) (depth_after depth i) next deeper (subst (λ (k : ℕ). IsBalanced (depth_after k i) is) e o.balanced) (All-tail IsInstr i is all) size in
     ap (with_lines line d) cut ∙ one_line line d next text (text_lines rest) one ∙ left ∙ ap (λ (js : List Instr). Ok (draft_of js [])) (append_assoc d.list (i ∷ []) is)
 

@@ -1,4 +1,4 @@
--- A list that is cut at the first element that passes a test.
+-- A list that is cut at the first element that passes a test. Only clauses of private functions use what stands here.
 use Rattle.std.specs.Prelude.{◌≡◌, ◌<◌, ℕ, List, [], ◌∷◌, length, Bool}
 use Rattle.std.specs.List.{slice_split, before_first, after_first}
 

@@ -28,12 +28,9 @@ use Rattle.loda_syntax.specs.declared.word.Word.{Word}
 use Rattle.loda_syntax.specs.declared.word.Word.TheVariants.{Operation, Clear, LoopStart, LoopEnd, Call}
 use Rattle.loda_syntax.specs.declared.error.SyntaxKind.{SyntaxKind}
 use Rattle.loda_syntax.specs.declared.error.SyntaxKind.TheVariants.{BadOperand, WideLiteral, ConstantTarget, Unsupported}
-
--- what follows a value, where there is one, and else the fault
-infixl 10 ◌>>=◌
-abbrev pub ◌>>=◌ : {A B E : Type 0} → Result A E → (A → Result B E) → Result B E
-(Ok x) >>= f = f x
-(Err e) >>= f = Err e
+use Rattle.text_parts.specs.declared.names.TheConstants.{GREATEST_NAME}
+use Rattle.loda_syntax.specs.declared.instr.TheConstants.{MEMORY_CELLS}
+use Rattle.text_parts.specs.Results.{◌>>=◌}
 
 -- ---- an operand
 
@@ -50,7 +47,7 @@ signed_by false n = pos n
 -- a cell, from its digits: 0 to 4095
 abbrev pub in_memory : Option ℕ → Option ℕ
 in_memory None = None
-in_memory (Some c) = if nat_lt c 4096 then Some c else None
+in_memory (Some c) = if nat_lt c MEMORY_CELLS then Some c else None
 
 -- the cell that digits spell
 abbrev pub cell_of : List ℕ → Option ℕ
@@ -121,17 +118,17 @@ operands_read least most texts = all_read least most (map operand_read texts)
 
 -- a region of 1 to 64 cells within memory
 abbrev pub loop_over : ℕ → ℤ → Result Instr SyntaxKind
-loop_over c (pos n) = if nat_le 1 n && nat_le n 64 && nat_le (c + n) 4096 then Ok (instr.LoopStart c n) else Err BadOperand
+loop_over c (pos n) = if nat_le 1 n && nat_le n 64 && nat_le (c + n) MEMORY_CELLS then Ok (instr.LoopStart c n) else Err BadOperand
 loop_over c (negsuc n) = Err BadOperand
 
 -- a region of 0 to 1024 cells within memory
 abbrev pub clear_of : ℕ → ℤ → Result Instr SyntaxKind
-clear_of c (pos n) = if nat_le n 1024 && nat_le (c + n) 4096 then Ok (instr.Clear c n) else Err BadOperand
+clear_of c (pos n) = if nat_le n 1024 && nat_le (c + n) MEMORY_CELLS then Ok (instr.Clear c n) else Err BadOperand
 clear_of c (negsuc n) = Err BadOperand
 
--- a name from 1 to 999999
+-- a name from 1 to 999,999
 abbrev pub call_of : Operand → ℤ → Result Instr SyntaxKind
-call_of target (pos n) = if nat_le 1 n && nat_le n 999999 then Ok (instr.Call target n) else Err BadOperand
+call_of target (pos n) = if nat_le 1 n && nat_le n GREATEST_NAME then Ok (instr.Call target n) else Err BadOperand
 call_of target (negsuc n) = Err BadOperand
 
 -- the instruction of a word and as many operands as it takes, or the first fault of tests 6 to 8: a target that is a constant,

@@ -13,6 +13,7 @@ use Rattle.loda_syntax.specs.declared.error.SyntaxKind.{SyntaxKind}
 use Rattle.loda_syntax.specs.declared.error.SyntaxKind.TheVariants as kinds
 use Rattle.loda_syntax.specs.declared.error.ParseError.{ParseError}
 use Rattle.loda_syntax.specs.declared.error.ParseError.TheVariants as errors
+use Rattle.loda_syntax.specs.declared.instr.TheConstants.{MOST_INSTRS}
 
 -- none of the lines has a fault of its own, and these are their instructions, in their order
 pub record Stand (texts : List (List ℕ)) (is : List Instr) : Type 0 where
@@ -28,7 +29,7 @@ pub record IsTextOf (bytes : List ℕ) (program : Text) : Type 0 where
 -- the lines so far have no fault, and these are their instructions
 pub record Begin (texts : List (List ℕ)) (is : List Instr) : Type 0 where
   pub stand : Stand texts is
-  pub short : length is ≤ 1000
+  pub short : length is ≤ MOST_INSTRS
   pub ends : IsSome (open_loops 0 is)
 
 -- the first fault of a line behind these instructions, from what is read of the line alone, by tests 9 and 10: an end without
@@ -36,7 +37,7 @@ pub record Begin (texts : List (List ℕ)) (is : List Instr) : Type 0 where
 abbrev pub IsFirstFault : List Instr → Result (Option Instr) SyntaxKind → SyntaxKind → Type 0
 IsFirstFault before (Err own) kind = kind ≡ own
 IsFirstFault before (Ok None) kind = ⊥
-IsFirstFault before (Ok (Some i)) kind = ((open_loops 0 (before ++ i ∷ []) ≡ None) × (kind ≡ kinds.LoopClose)) ⊎ (IsSome (open_loops 0 (before ++ i ∷ [])) × (1000 ≤ length before) × (kind ≡ kinds.TooLong))
+IsFirstFault before (Ok (Some i)) kind = ((open_loops 0 (before ++ i ∷ []) ≡ None) × (kind ≡ kinds.LoopClose)) ⊎ (IsSome (open_loops 0 (before ++ i ∷ [])) × (MOST_INSTRS ≤ length before) × (kind ≡ kinds.TooLong))
 
 -- the line has this fault, and no line before it has any
 pub record BadLine (bytes : List ℕ) (line : ℕ) (kind : SyntaxKind) : Type 0 where

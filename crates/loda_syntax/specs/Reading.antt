@@ -1,13 +1,15 @@
 -- What a text stands for: its program, or its first fault.
 use Rattle.std.specs.Prelude.{◌≡◌, ◌≤◌, All, ℕ, ◌+◌, List, [], ◌∷◌, ◌++◌, length, nat_lt, if◌then◌else◌, Option, Some, None, Result, Ok, Err}
 use Rattle.loda_syntax.specs.Lines.{text_lines}
-use Rattle.loda_syntax.specs.Grammar.{◌>>=◌, line_read}
+use Rattle.text_parts.specs.Results.{◌>>=◌}
+use Rattle.loda_syntax.specs.Grammar.{line_read}
 use Rattle.loda_syntax.specs.Programs.{Text}
 use Rattle.loda_syntax.specs.WellFormed.{IsInstr, open_loops}
 use Rattle.loda_syntax.specs.declared.instr.Instr.{Instr}
 use Rattle.loda_syntax.specs.declared.instr.Instr.TheVariants.{Arith, Clear, LoopStart, LoopEnd, Call}
 use Rattle.loda_syntax.specs.declared.error.SyntaxKind.{SyntaxKind}
 use Rattle.loda_syntax.specs.declared.error.SyntaxKind.TheVariants as kinds
+use Rattle.loda_syntax.specs.declared.instr.TheConstants.{MOST_INSTRS}
 
 -- a fault, and the line that it stands in, counted from 1
 pub record TextFault : Type 0 where
@@ -29,7 +31,7 @@ empty_draft = draft_of [] []
 
 -- the draft's instructions are in range, and its open loops are those that they leave open
 pub record IsDraft (draft : Draft) : Type 0 where
-  pub short : length draft.list ≤ 1000
+  pub short : length draft.list ≤ MOST_INSTRS
   pub each : All IsInstr draft.list
   pub loops : open_loops 0 draft.list ≡ Some (length draft.open_at)
 
@@ -42,9 +44,9 @@ open_after line (Arith v t s) open_at = Ok open_at
 open_after line (Clear c n) open_at = Ok open_at
 open_after line (Call t q) open_at = Ok open_at
 
--- test 10: there are at most 1000 instructions
+-- test 10: there are at most 1,000 instructions
 abbrev pub add_last : List Instr → Instr → List ℕ → Result Draft SyntaxKind
-add_last list instr open_at = if nat_lt (length list) 1000 then Ok (draft_of (list ++ instr ∷ []) open_at) else Err kinds.TooLong
+add_last list instr open_at = if nat_lt (length list) MOST_INSTRS then Ok (draft_of (list ++ instr ∷ []) open_at) else Err kinds.TooLong
 
 -- the draft with a line's instruction, or the first fault of tests 9 and 10
 unfoldable pub with_instr : ℕ → Draft → Option Instr → Result Draft SyntaxKind

@@ -5,15 +5,16 @@ ghost use Rattle.std.specs.Option.{option_to_list};
 ghost use Rattle.loda_syntax.specs.Grammar.{content_read, line_read, loop_over, clear_of, call_of, instr_read};
 
 use crate::error::SyntaxKind;
-use crate::instr::{Instr, Operand, Verb};
+use crate::instr::{Instr, MEMORY_CELLS, Operand, Verb};
 use crate::line::{content, cut_word};
 use crate::operand::{no_operands, one_or_two_operands, two_operands};
 use crate::word::{Word, word_of};
+use text_parts::GREATEST_NAME;
 
 fn loop_over(start: u16, len: i128) -> Result<Instr, SyntaxKind>
     ensures { result ≡ loop_over start len }
 {
-    if 1 <= len && len <= 64 && i128::from(start) + len <= 4096 {
+    if 1 <= len && len <= 64 && i128::from(start) + len <= i128::from(MEMORY_CELLS) {
         Ok(Instr::LoopStart {
             start,
             len: len as u8,
@@ -26,7 +27,7 @@ fn loop_over(start: u16, len: i128) -> Result<Instr, SyntaxKind>
 fn clear_of(start: u16, count: i128) -> Result<Instr, SyntaxKind>
     ensures { result ≡ clear_of start count }
 {
-    if 0 <= count && count <= 1024 && i128::from(start) + count <= 4096 {
+    if 0 <= count && count <= 1024 && i128::from(start) + count <= i128::from(MEMORY_CELLS) {
         Ok(Instr::Clear {
             start,
             count: count as u16,
@@ -39,7 +40,7 @@ fn clear_of(start: u16, count: i128) -> Result<Instr, SyntaxKind>
 fn call_of(target: Operand, name: i128) -> Result<Instr, SyntaxKind>
     ensures { result ≡ call_of target name }
 {
-    if 1 <= name && name <= 999_999 {
+    if 1 <= name && name <= i128::from(GREATEST_NAME) {
         Ok(Instr::Call {
             target,
             name: name as u32,

@@ -7,13 +7,10 @@ ghost use Rattle.loda_syntax.specs.Reading.{IsDraft, empty_draft, open_after, wi
 
 use crate::content::line_instr;
 use crate::error::{ParseError, SyntaxKind};
-use crate::instr::Instr;
+use crate::instr::{Instr, MOST_INSTRS};
 use crate::program::Program;
 use std::alloc::Global;
 use std::marker::Model;
-
-/// The greatest number of instructions in a program.
-const MOST_INSTRS: usize = 1000;
 
 /// What the lines so far stand for: their instructions, and the lines of the loops that aren't ended, innermost last.
 #[derive(Drop)]

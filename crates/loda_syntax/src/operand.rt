@@ -7,7 +7,7 @@ ghost use Rattle.loda_syntax.specs.Grammar.{cell_of, signed_read, operand_read, 
 ghost use Rattle.loda_syntax.specs.Lines.{cut_operands};
 
 use crate::error::SyntaxKind;
-use crate::instr::Operand;
+use crate::instr::{MEMORY_CELLS, Operand};
 use crate::line::cut_at;
 use text_parts::{number_up_to, trim};
 
@@ -28,7 +28,7 @@ fn cell_of(digits: &[u8]) -> Option<u16>
     ensures { result ≡ cell_of digits.now }
 {
     match number_up_to(digits, WIDE) {
-        Some(cell) if cell < 4096 => Some(cell as u16),
+        Some(cell) if cell < u128::from(MEMORY_CELLS) => Some(cell as u16),
         _ => None,
     }
 }

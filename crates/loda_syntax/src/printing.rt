@@ -5,7 +5,7 @@ ghost use Rattle.loda_syntax.specs.Words.{word_text};
 ghost use Rattle.loda_syntax.specs.Canon.{canon, operand_text, instr_text, line_text, depth_at, depth_after, operand_texts};
 ghost use Rattle.loda_syntax.specs.Answers.{AddsFront};
 
-use crate::instr::{Instr, Operand};
+use crate::instr::{Instr, MOST_INSTRS, Operand};
 use crate::program::Program;
 use crate::word::{Word, word_text};
 use itoa::Buffer;
@@ -90,7 +90,7 @@ fn depth_at(depth: u32, instr: &Instr) -> u32
 }
 
 fn depth_after(depth: u32, instr: &Instr) -> u32
-    requires { depth < 1000 }
+    requires { depth < MOST_INSTRS }
     ensures { result ≡ depth_after depth instr.now }
 {
     match instr {
@@ -101,7 +101,7 @@ fn depth_after(depth: u32, instr: &Instr) -> u32
 }
 
 fn write_line(out: &mut Vec<u8>, depth: u32, instr: &Instr) -> Result<(), AllocError>
-    requires { depth < 1000 }
+    requires { depth < MOST_INSTRS }
     ensures { OnOk result (out.new.items ≡ out.old.items ++ line_text depth instr.now) }
 {
     'indent: for _ in 0..depth_at(depth, instr) {

@@ -3,9 +3,10 @@
 ghost use Rattle.std.specs.Prelude.{◌≡◌, ◌↔◌, ◌+◌, ◌≤◌, IfOk, IfErr, OnErr, List, IsTrue, length, All, zero};
 ghost use Rattle.loda_syntax.specs.WellFormed.{IsProgram, IsTarget, IsSource, IsInstr, IsBalanced};
 
-use crate::instr::{Instr, Operand};
+use crate::instr::{Instr, MEMORY_CELLS, MOST_INSTRS, Operand};
 use std::alloc::AllocError;
 use std::marker::Model;
+use text_parts::GREATEST_NAME;
 
 /// A list of instructions that is well formed: at most 1,000 instructions, each with its operands, region and name in
 /// range, and loops that are balanced.
@@ -31,8 +32,8 @@ fn is_target(operand: &Operand) -> bool
 {
     match *operand {
         Operand::Constant(_) => false,
-        Operand::Direct(cell) => cell < 4096,
-        Operand::Indirect(cell) => cell < 4096,
+        Operand::Direct(cell) => cell < MEMORY_CELLS,
+        Operand::Indirect(cell) => cell < MEMORY_CELLS,
     }
 }
 
@@ -41,8 +42,8 @@ fn is_source(operand: &Operand) -> bool
 {
     match *operand {
         Operand::Constant(value) => value != i128::MIN,
-        Operand::Direct(cell) => cell < 4096,
-        Operand::Indirect(cell) => cell < 4096,
+        Operand::Direct(cell) => cell < MEMORY_CELLS,
+        Operand::Indirect(cell) => cell < MEMORY_CELLS,
     }
 }
 
@@ -55,14 +56,14 @@ fn is_instr(instr: &Instr) -> bool
             target,
             source,
         } => is_target(target) && is_source(source),
-        Instr::Clear { start, count } => *start < 4096
+        Instr::Clear { start, count } => *start < MEMORY_CELLS
             && *count <= 1024
-            && *start as u32 + *count as u32 <= 4096,
+            && *start as u32 + *count as u32 <= MEMORY_CELLS as u32,
         Instr::LoopStart { start, len } => 1 <= *len
             && *len <= 64
-            && *start as u32 + *len as u32 <= 4096,
+            && *start as u32 + *len as u32 <= MEMORY_CELLS as u32,
         Instr::LoopEnd => true,
-        Instr::Call { target, name } => is_target(target) && 1 <= *name && *name <= 999_999,
+        Instr::Call { target, name } => is_target(target) && 1 <= *name && *name <= GREATEST_NAME,
     }
 }
 
@@ -73,7 +74,7 @@ fn all_in_range(list: &[Instr]) -> bool
 }
 
 fn is_balanced(list: &[Instr]) -> bool
-    requires { length list.now ≤ 1000 }
+    requires { length list.now ≤ MOST_INSTRS }
     ensures { IsTrue result ↔ IsBalanced zero list.now }
 {
     let mut depth: u32 = 0;
@@ -95,7 +96,7 @@ fn is_balanced(list: &[Instr]) -> bool
 fn is_program(list: &[Instr]) -> bool
     ensures { IsTrue result ↔ IsProgram list.now }
 {
-    if list.len() <= 1000 {
+    if list.len() <= MOST_INSTRS {
         all_in_range(list) && is_balanced(list)
     } else {
         false

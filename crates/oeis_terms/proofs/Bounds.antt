@@ -6,7 +6,7 @@ use Rattle.std.proofs.lemmas.Bool.Decides.{nat_tests}
 use Rattle.std.proofs.lemmas.List.Sorted.{All-permutation}
 use Rattle.loda_io.specs.declared.ReadError.{ReadError}
 use Rattle.loda_io.specs.declared.ReadError.TheVariants.{FileTooLarge, LineTooLong}
-use Rattle.loda_io.specs.Shelf.{Spot, beginning, file_limit, line_limit, checked}
+use Rattle.loda_io.specs.Shelf.{Spot, beginning, checked}
 use Rattle.loda_io.specs.Shelf as io
 use Rattle.oeis_terms.specs.declared.error.TermsError.{TermsError}
 use Rattle.oeis_terms.specs.Cut.{Pieces, pieces, with_byte, lines}
@@ -16,6 +16,7 @@ use Rattle.oeis_terms.specs.Answers.{Parses}
 use Rattle.oeis_terms.proofs.Said.{row_facts}
 use Rattle.oeis_terms.proofs.Facts.{rows_all, kept_all, each}
 use Rattle.oeis_terms.proofs.Sorting.{by_name-permutation}
+use Rattle.loda_io.specs.declared.scan.TheConstants.{FILE_LIMIT, LINE_LIMIT}
 
 -- ---- lines by the first byte
 
@@ -42,18 +43,18 @@ lines-cons b bs = in_case (eqb b 10)
 -- ---- no line is too long
 
 abbrev IsShort : List ℕ → Type 0
-IsShort l = length l ≤ 65_536
+IsShort l = length l ≤ LINE_LIMIT
 
 -- so many bytes of the first line were read before
 abbrev AreShort : ℕ → List (List ℕ) → Type 0
 AreShort n [] = Unit {0}
-AreShort n (l ∷ ls) = (n + length l ≤ 65_536) × AllByRecursion IsShort ls
+AreShort n (l ∷ ls) = (n + length l ≤ LINE_LIMIT) × AllByRecursion IsShort ls
 
 all_short : (ls : List (List ℕ)) → AreShort 0 ls → AllByRecursion IsShort ls
 all_short [] h = tt
 all_short (l ∷ ls) h = let first = h.0 in (omega arith, h.1)
 
-one_longer : (n b : ℕ) (ls : List (List ℕ)) → n + 1 ≤ 65_536 → AreShort (n + 1) ls → AreShort n (before_lines b ls)
+one_longer : (n b : ℕ) (ls : List (List ℕ)) → n + 1 ≤ LINE_LIMIT → AreShort (n + 1) ls → AreShort n (before_lines b ls)
 one_longer n b [] le h = (omega arith, tt)
 one_longer n b (l ∷ ls) le h = let first = h.0 in (omega arith, h.1)
 
@@ -61,26 +62,26 @@ if_none : (b : Bool) (e : ReadError) (o : Option ReadError) → cond b (Some e) 
 if_none true e o h = absurd cc
 if_none false e o h = (refl, h)
 
-shorter : (n : ℕ) → n ≤ 65_536 → eqb n 65_536 ≡ false → n + 1 ≤ 65_536
+shorter : (n : ℕ) → n ≤ LINE_LIMIT → eqb n LINE_LIMIT ≡ false → n + 1 ≤ LINE_LIMIT
 shorter n le other = grind (arith, nat_tests)
 
-are_short : (bs : List ℕ) (s : Spot) → s.column ≤ 65_536 → io.first_past_limit s bs ≡ None → AreShort s.column (lines bs)
+are_short : (bs : List ℕ) (s : Spot) → s.column ≤ LINE_LIMIT → io.first_past_limit s bs ≡ None → AreShort s.column (lines bs)
 unfolding io.first_past_limit lines pieces
 are_short [] s le e = (omega arith, tt)
 are_short (b ∷ bs) s le e =
     let at : Spot = record { at = s.at + 1; line = s.line + 1; column = 0 } in
     let on : Spot = record { at = s.at + 1; line = s.line; column = s.column + 1 } in
-    let inside = if_none (eqb s.at file_limit) (FileTooLarge (file_limit + 1)) (cond (eqb b 10) (io.first_past_limit at bs) (cond (eqb s.column line_limit) (Some (LineTooLong s.line)) (io.first_past_limit on bs))) e in
+    let inside = if_none (eqb s.at FILE_LIMIT) (FileTooLarge (FILE_LIMIT + 1)) (cond (eqb b 10) (io.first_past_limit at bs) (cond (eqb s.column LINE_LIMIT) (Some (LineTooLong s.line)) (io.first_past_limit on bs))) e in
     subst (λ (ls : List (List ℕ)). AreShort s.column ls) (sym (lines-cons b bs)) (in_case (eqb b 10) inside.1 (are_short bs at (omega arith)) (λ few. are_short bs on few))
   where
     in_case : (same : Bool) → cond same (io.first_past_limit (record { at = s.at + 1; line = s.line + 1; column = 0 }) bs)
-        (cond (eqb s.column line_limit) (Some (LineTooLong s.line)) (io.first_past_limit (record { at = s.at + 1; line = s.line; column = s.column + 1 }) bs)) ≡ None
+        (cond (eqb s.column LINE_LIMIT) (Some (LineTooLong s.line)) (io.first_past_limit (record { at = s.at + 1; line = s.line; column = s.column + 1 }) bs)) ≡ None
         → (io.first_past_limit (record { at = s.at + 1; line = s.line + 1; column = 0 }) bs ≡ None → AreShort 0 (lines bs))
-        → (s.column + 1 ≤ 65_536 → io.first_past_limit (record { at = s.at + 1; line = s.line; column = s.column + 1 }) bs ≡ None → AreShort (s.column + 1) (lines bs))
+        → (s.column + 1 ≤ LINE_LIMIT → io.first_past_limit (record { at = s.at + 1; line = s.line; column = s.column + 1 }) bs ≡ None → AreShort (s.column + 1) (lines bs))
         → AreShort s.column (cond same ([] ∷ lines bs) (before_lines b (lines bs)))
     in_case true e' ended going = (omega arith, all_short (lines bs) (ended e'))
     in_case false e' ended going =
-        let few = if_none (eqb s.column line_limit) (LineTooLong s.line) (io.first_past_limit (record { at = s.at + 1; line = s.line; column = s.column + 1 }) bs) e' in
+        let few = if_none (eqb s.column LINE_LIMIT) (LineTooLong s.line) (io.first_past_limit (record { at = s.at + 1; line = s.line; column = s.column + 1 }) bs) e' in
         let le' = shorter s.column le few.0 in
         one_longer s.column b (lines bs) le' (going le' few.1)
 

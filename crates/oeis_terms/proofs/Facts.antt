@@ -12,6 +12,7 @@ use Rattle.oeis_terms.specs.Stripped.{row_in, rows_in, fault_behind, TermsFault,
 use Rattle.oeis_terms.specs.Table.{Row, IsRow, NamesDiffer, is_kept}
 use Rattle.oeis_terms.proofs.Said.{row_facts}
 use Rattle.oeis_terms.proofs.LinesRead.{rows_push}
+use Rattle.text_parts.specs.declared.names.TheConstants.{GREATEST_NAME}
 
 abbrev one_named : ℕ → Row → ℕ
 one_named name r = cond (r.0 == name) 1 0
@@ -113,7 +114,7 @@ enough n test = grind (arith, nat_tests)
 
 pub kept_rows : (ls : List (List ℕ)) → All IsRow (filter is_kept (rows_in ls))
 kept_rows ls =
-    let P : Row → Type 0 = λ r. (0 < r.0) × (r.0 < 1_000_000) in
+    let P : Row → Type 0 = λ r. (0 < r.0) × (r.0 ≤ GREATEST_NAME) in
     let Q : List ℕ → Type 0 = λ l. Unit {0} in
     each IsRow (filter is_kept (rows_in ls))
     (kept_all P IsRow (λ row h test. record { terms = enough (length row.1) test; positive = h.0; six_digits = h.1 }) (rows_in ls)

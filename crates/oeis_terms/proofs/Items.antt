@@ -3,7 +3,8 @@ use Rattle.std.proofs.Common.{◌≡◌, ℕ, List, [], ◌∷◌, ◌++◌, ref
 use Rattle.std.proofs.lemmas.List.{append-nil}
 use Rattle.std.specs.Prelude.{Some, None, Result, Ok, Err}
 use Rattle.oeis_terms.specs.Cut.{first_cut, Pieces, pieces}
-use Rattle.oeis_terms.specs.Items.{◌>>=◌, items_from}
+use Rattle.text_parts.specs.Results.{◌>>=◌}
+use Rattle.oeis_terms.specs.Items.{items_from}
 use Rattle.oeis_terms.proofs.Lines.{cut_pieces, pieces-cut}
 
 -- items that were read before, and what is still read

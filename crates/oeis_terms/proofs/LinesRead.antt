@@ -13,12 +13,13 @@ use Rattle.oeis_terms.specs.declared.error.LineError.TheVariants as errors
 use Rattle.oeis_terms.specs.declared.error.TermsKind.{TermsKind}
 use Rattle.oeis_terms.specs.declared.error.TermsKind.TheVariants.{Repeated}
 use Rattle.oeis_terms.specs.Cut.{lines, lines_left}
-use Rattle.oeis_terms.specs.Items.{◌>>=◌}
+use Rattle.text_parts.specs.Results.{◌>>=◌}
 use Rattle.oeis_terms.specs.Line.{said}
 use Rattle.oeis_terms.specs.Stripped.{row_in, rows_in, fault_behind, TermsFault, or_later, first_line_fault}
 use Rattle.oeis_terms.specs.Table.{Row, is_kept, is_skipped}
 use Rattle.oeis_terms.specs.Reading.{ReadingState, Reflects, LineFails, ReadsLines, error_at_line, with_row, after_row, after_line}
 use Rattle.oeis_terms.proofs.Said.{row_facts}
+use Rattle.text_parts.specs.declared.names.TheConstants.{GREATEST_NAME}
 
 -- what is left to read, with the end
 abbrev pub left : Option (List ℕ) → ℕ
@@ -46,7 +47,7 @@ less_left text (Some t) h = omega arith
 abbrev has_name : ℕ → Row → Bool
 has_name name r = r.0 == name
 
-seen_cases : (b : Bool) (seen : List Bool) (row : Row) (rows : List Row) (name : ℕ) → eqb row.0 name ≡ b → row.0 < length seen → name < 1_000_000
+seen_cases : (b : Bool) (seen : List Bool) (row : Row) (rows : List Row) (name : ℕ) → eqb row.0 name ≡ b → row.0 < length seen → name ≤ GREATEST_NAME
     → get_or seen name false ≡ list_any (has_name name) rows → get_or (set seen row.0 true) name false ≡ (list_any (has_name name) rows || (b || false))
 seen_cases true seen row rows name e lt low h =
     let same : row.0 ≡ name = grind (arith, nat_tests, e) in
@@ -76,7 +77,7 @@ one_more : (b : Bool) (n : ℕ) → cond b n (n + 1) ≤ n + 1
 one_more true n = omega arith
 one_more false n = omega arith
 
-Reflects-push : (rows : List Row) (state : ReadingState) (row : Row) → Reflects rows state → row.0 < 1_000_000 → Reflects (rows ++ row ∷ []) (with_row state row)
+Reflects-push : (rows : List Row) (state : ReadingState) (row : Row) → Reflects rows state → row.0 ≤ GREATEST_NAME → Reflects (rows ++ row ∷ []) (with_row state row)
 Reflects-push rows state row h low =
     let size = h.size in
     record {

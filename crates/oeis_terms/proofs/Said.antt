@@ -10,7 +10,8 @@ use Rattle.oeis_terms.specs.declared.error.TermsKind.{TermsKind}
 use Rattle.oeis_terms.specs.declared.error.TermsKind.TheVariants.{BadName, NoComma}
 use Rattle.text_parts.specs.Blanks.{without_return, is_blank, trim_back}
 use Rattle.oeis_terms.specs.Cut.{Pieces, pieces, with_byte, ends_with, trimmed}
-use Rattle.oeis_terms.specs.Items.{◌>>=◌, items_from}
+use Rattle.text_parts.specs.Results.{◌>>=◌}
+use Rattle.oeis_terms.specs.Items.{items_from}
 use Rattle.text_parts.specs.Digits.{number_spelled}
 use Rattle.oeis_terms.specs.Numbers.{integer_of}
 use Rattle.text_parts.specs.Names.{name_read}
@@ -18,6 +19,7 @@ use Rattle.oeis_terms.specs.Line.{named, name_at, term_at, integers_from, usable
 use Rattle.oeis_terms.specs.Table.{Row}
 use Rattle.text_parts.proofs.Shorter.{back-length, return-length}
 use Rattle.text_parts.proofs.NameBack.{read_is_name}
+use Rattle.text_parts.specs.declared.names.TheConstants.{GREATEST_NAME}
 
 bind_ok : {A B : Type 0} (r : Result A TermsKind) (f : A → Result B TermsKind) (y : B) → (r >>= f) ≡ Ok y → (x : A) × (r ≡ Ok x) × (f x ≡ Ok y)
 bind_ok (Ok x) f y e = (x, refl, e)
@@ -66,7 +68,7 @@ named_ok None rest x e = absurd cc
 named_ok (Some n) rest x e = (cc, cc)
 
 -- a name is from 1 to 999,999, and stands in the first seven bytes
-pub name_facts : (line : List ℕ) (x : ℕ × List ℕ) → name_at line ≡ Ok x → (0 < x.0) × (x.0 < 1_000_000) × (length x.1 ≤ length line)
+pub name_facts : (line : List ℕ) (x : ℕ × List ℕ) → name_at line ≡ Ok x → (0 < x.0) × (x.0 ≤ GREATEST_NAME) × (length x.1 ≤ length line)
 name_facts line x e =
     let named = named_ok (name_read (take 7 line)) (drop 7 line) x e in
     let is = read_is_name (take 7 line) x.0 named.0 in
@@ -123,7 +125,7 @@ terms_count (b ∷ c ∷ rest) terms e =
 trimmed-length : (line : List ℕ) → length (trimmed line) ≤ length line
 trimmed-length line = omega (arith, back-length (without_return line), return-length line)
 
-pub row_facts : (line : List ℕ) (row : Row) → said line ≡ Ok (Some row) → (0 < row.0) × (row.0 < 1_000_000) × (2 * length row.1 ≤ length line)
+pub row_facts : (line : List ℕ) (row : Row) → said line ≡ Ok (Some row) → (0 < row.0) × (row.0 ≤ GREATEST_NAME) × (2 * length row.1 ≤ length line)
 row_facts line row e =
     let h = said_parts line row e in
     let named = name_facts (trimmed line) (row.0, h.behind) h.name in

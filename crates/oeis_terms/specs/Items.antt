@@ -1,11 +1,6 @@
 -- Items that stand one after the other, read from the left, each at its place.
-use Rattle.std.specs.Prelude.{ℕ, List, [], ◌∷◌, Result, Ok, Err}
-
--- what follows a value, where there is one, and else the fault
-infixl 10 ◌>>=◌
-abbrev pub ◌>>=◌ : {A B E : Type 0} → Result A E → (A → Result B E) → Result B E
-(Ok x) >>= f = f x
-(Err e) >>= f = Err e
+use Rattle.std.specs.Prelude.{ℕ, List, [], ◌∷◌, Result, Ok}
+use Rattle.text_parts.specs.Results.{◌>>=◌}
 
 -- an item by its place and bytes, and the place after it
 unfoldable pub items_from : {A E : Type 0} → (ℕ → List ℕ → Result A E) → (ℕ → List ℕ → ℕ) → ℕ → List (List ℕ) → Result (List A) E

@@ -5,7 +5,8 @@ use Rattle.checked_numbers.specs.Numbers.{is_number}
 use Rattle.oeis_terms.specs.declared.error.TermsKind.{TermsKind}
 use Rattle.oeis_terms.specs.declared.error.TermsKind.TheVariants.{BadName, NoComma, BadTerm}
 use Rattle.oeis_terms.specs.Cut.{pieces, ends_with, trimmed}
-use Rattle.oeis_terms.specs.Items.{◌>>=◌, items_from}
+use Rattle.text_parts.specs.Results.{◌>>=◌}
+use Rattle.oeis_terms.specs.Items.{items_from}
 use Rattle.text_parts.specs.Digits.{number_spelled}
 use Rattle.oeis_terms.specs.Numbers.{integer_of}
 use Rattle.oeis_terms.specs.Table.{Row}

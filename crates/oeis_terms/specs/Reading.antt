@@ -1,5 +1,5 @@
--- How the lines of a file are read one after the other.
-use Rattle.std.specs.Prelude.{◌≡◌, ℕ, ◌+◌, ◌<◌, ◌==◌, if◌then◌else◌, ℤ, Bool, true, false, List, [], ◌∷◌, ◌++◌, length, filter, count_by, slice_index_or, slice_set, Option, Some, None, Result, Ok, Err}
+-- How the lines of a file are read one after the other. Only clauses of private functions use what stands here.
+use Rattle.std.specs.Prelude.{◌≡◌, ℕ, ◌+◌, ◌≤◌, ◌==◌, if◌then◌else◌, ℤ, Bool, true, false, List, [], ◌∷◌, ◌++◌, length, filter, count_by, slice_index_or, slice_set, Option, Some, None, Result, Ok, Err}
 use Rattle.std.specs.List.{list_any}
 use Rattle.oeis_terms.specs.declared.error.LineError.{LineError}
 use Rattle.oeis_terms.specs.declared.error.LineError.TheVariants as errors
@@ -9,10 +9,11 @@ use Rattle.oeis_terms.specs.declared.error.TermsKind.{TermsKind}
 use Rattle.oeis_terms.specs.declared.error.TermsKind.TheVariants.{Repeated}
 use Rattle.oeis_terms.specs.declared.reading.Reading.{Reading}
 use Rattle.oeis_terms.specs.Cut.{lines}
-use Rattle.oeis_terms.specs.Items.{◌>>=◌}
+use Rattle.text_parts.specs.Results.{◌>>=◌}
 use Rattle.oeis_terms.specs.Line.{said}
 use Rattle.oeis_terms.specs.Stripped.{rows_in, first_line_fault}
 use Rattle.oeis_terms.specs.Table.{Row, is_kept, is_skipped}
+use Rattle.text_parts.specs.declared.names.TheConstants.{GREATEST_NAME}
 
 -- the error is the one that was read, or want of memory
 abbrev pub LineFails : {Y : Type 0} → LineError → Result Y TermsKind → Type 0
@@ -41,8 +42,8 @@ reading_state r = record { seen = r.seen.items; kept = r.kept.items; skipped = r
 
 -- a state stands for these rows
 pub record Reflects (rows : List Row) (state : ReadingState) : Type 0 where
-  pub size : length state.seen ≡ 1_000_000
-  pub seen : (name : ℕ) → name < 1_000_000 → slice_index_or state.seen name false ≡ list_any (λ r. r.0 == name) rows
+  pub size : length state.seen ≡ GREATEST_NAME + 1
+  pub seen : (name : ℕ) → name ≤ GREATEST_NAME → slice_index_or state.seen name false ≡ list_any (λ r. r.0 == name) rows
   pub kept : state.kept ≡ filter is_kept rows
   pub skipped : state.skipped ≡ count_by is_skipped rows
 

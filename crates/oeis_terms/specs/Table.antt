@@ -2,6 +2,7 @@
 use Rattle.std.specs.Prelude.{ℕ, ◌<◌, ◌≤◌, ◌==◌, nat_le, nat_lt, not, Bool, if◌then◌else◌, ℤ, List, [], ◌∷◌, length, filter, find, count_by, All, Option}
 use Rattle.std.specs.Option.{option_map}
 use Rattle.std.specs.List.{AllByRecursion}
+use Rattle.text_parts.specs.declared.names.TheConstants.{GREATEST_NAME}
 
 -- a name and terms
 abbrev pub Row : Type 0
@@ -20,7 +21,7 @@ row_of table name = option_map (λ r. r.1) (find (λ r. r.0 == name) table.rows)
 pub record IsRow (row : Row) : Type 0 where
   pub terms : 8 ≤ length row.1
   pub positive : 0 < row.0
-  pub six_digits : row.0 < 1_000_000
+  pub six_digits : row.0 ≤ GREATEST_NAME
 
 -- each name is less than those of the rows behind it
 abbrev pub HasAscendingNames : List Row → Type 0

@@ -11,12 +11,12 @@ use crate::cut::{ends_with, first_cut, trimmed};
 use crate::error::{LineError, TermsKind};
 use crate::number::term_of;
 use checked_numbers::Num;
-use text_parts::name_of;
+use text_parts::{GREATEST_NAME, name_of};
 
 // An A-number at the front, and the bytes after it.
 fn name_at(line: &[u8]) -> Result<(u32, &[u8]), TermsKind>
     ensures answer { MatchResult result (λ x. name_at line.now ≡ Ok (x.0, x.1.now)) (λ kind. name_at line.now ≡ Err kind) }
-    ensures small { IfOk result (λ x. (0 < x.0) × (x.0 < 1_000_000)) }
+    ensures small { IfOk result (λ x. (0 < x.0) × (x.0 ≤ GREATEST_NAME)) }
 {
     if line.len() < 7 {
         return Err(TermsKind::BadName);
@@ -83,7 +83,7 @@ fn terms_of(line: &[u8], terms: &mut Vec<Num>) -> Result<(), LineError>
 #[tactic(auto, unfolding(crate::specs::Line::row_at))]
 fn row_at(line: &[u8], terms: &mut Vec<Num>) -> Result<u32, LineError>
     ensures answer { LineGives (λ name. (name, terms.new.items)) result (row_at line.now) }
-    ensures small { IfOk result (λ name. (0 < name) × (name < 1_000_000)) }
+    ensures small { IfOk result (λ name. (0 < name) × (name ≤ GREATEST_NAME)) }
 {
     let (name, rest) = match name_at(line) {
         Ok(named) => named,
@@ -104,7 +104,7 @@ fn is_silent(line: &[u8]) -> bool
 // What a line says: the name of its row, whose usable terms are put into the list, or nothing.
 pub fn read_line(line: &[u8], terms: &mut Vec<Num>) -> Result<Option<u32>, LineError>
     ensures answer { LineGives (option_map (λ name. (name, terms.new.items))) result (said line.now) }
-    ensures small { IfOk result (λ row. IfSome row (λ name. (0 < name) × (name < 1_000_000))) }
+    ensures small { IfOk result (λ row. IfSome row (λ name. (0 < name) × (name ≤ GREATEST_NAME))) }
 {
     let line = trimmed(line);
     if is_silent(line) {

@@ -8,9 +8,10 @@ use crate::line::read_line;
 use crate::table::Row;
 use checked_numbers::Num;
 use std::alloc::{AllocError, Global};
+use text_parts::GREATEST_NAME;
 
 // How many names there are, with the one that no row has.
-const NAMES: usize = 1_000_000;
+const NAMES: usize = GREATEST_NAME as usize + 1;
 
 // The fewest usable terms of a row that is kept.
 const FEWEST: usize = 8;
@@ -68,7 +69,7 @@ pub fn add_line(
     terms: &mut Vec<Num>,
     line: &[u8],
 ) -> Result<(), LineError>
-    requires size { length reading.old.seen.items ≡ 1_000_000 }
+    requires size { length reading.old.seen.items ≡ NAMES }
     requires skipped { reading.old.skipped + 1 < 2 ^ 64 }
     ensures { LineGives (λ _. reading_state reading.new) result (after_line (reading_state reading.old) line.now) }
 {

@@ -4,7 +4,7 @@ use Rattle.std.specs.Prelude.{find, Option, Some, None, Result, Ok, Err}
 use Rattle.std.specs.Option.{option_map}
 use Rattle.std.specs.FinMap as map
 use Rattle.std.proofs.lemmas.List.{append-nil}
-use Rattle.loda_syntax.specs.Grammar.{◌>>=◌}
+use Rattle.text_parts.specs.Results.{◌>>=◌}
 use Rattle.program_store.specs.declared.errors.StoreKind.TheVariants.{BadHeader}
 use Rattle.program_store.specs.declared.errors.StoreError.{StoreError}
 use Rattle.program_store.specs.declared.published.Published.{Published}

@@ -1,7 +1,7 @@
 -- Which store a store file stands for, and which proposals a candidates file, or the first fault of each.
 use Rattle.std.specs.Prelude.{ℕ, ◌+◌, List, [], ◌∷◌, find, ◌==◌, ◌&&◌, not, nat_le, nat_lt, if◌then◌else◌, Option, Some, None, Result, Ok, Err, Bool, false}
 use Rattle.std.specs.FinMap as map
-use Rattle.loda_syntax.specs.Grammar.{◌>>=◌}
+use Rattle.text_parts.specs.Results.{◌>>=◌}
 use Rattle.text_parts.specs.Blanks.{trim_front}
 use Rattle.loda_syntax.specs.Programs.{Text}
 use Rattle.loda_syntax.specs.Reading.{TextFault, text_read}
@@ -12,6 +12,7 @@ use Rattle.program_store.specs.declared.published.Proposal.{Proposal}
 use Rattle.program_store.specs.Store.{Store, put_all}
 use Rattle.program_store.specs.Sections.{Line, Section, bare, cut_from}
 use Rattle.program_store.specs.Headers.{store_header_read, candidate_header_read}
+use Rattle.program_store.specs.declared.candidates.TheConstants.{MOST_JOBS}
 
 -- a fault, and the line of the file that it stands in, counted from 1
 pub record StoreFault : Type 0 where
@@ -96,7 +97,7 @@ store_read bytes =
 -- the proposal of a section by what its header was read as
 abbrev pub proposal_in_file : ℕ → Section → Option ℕ → Result Proposal StoreFault
 proposal_in_file number section None = fault section.line BadHeader
-proposal_in_file number section (Some name) = unless_kind section.line (if nat_lt 1000000 number then Some TooMany else None) (program_read section >>= λ program. Ok (record { name = name; program = program }))
+proposal_in_file number section (Some name) = unless_kind section.line (if nat_lt MOST_JOBS number then Some TooMany else None) (program_read section >>= λ program. Ok (record { name = name; program = program }))
 
 -- the proposal of a section, which is the section of this number, counted from 1, or the first of its faults
 unfoldable pub proposal_read : ℕ → Section → Result Proposal StoreFault

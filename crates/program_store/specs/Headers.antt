@@ -7,6 +7,7 @@ use Rattle.text_parts.specs.Blanks.{trim_back}
 use Rattle.text_parts.specs.Digits.{decimal_spelled}
 use Rattle.text_parts.specs.Names.{name_text, name_read}
 use Rattle.program_store.specs.Sections.{bare}
+use Rattle.program_store.specs.declared.headers.TheConstants.{PAST_COUNTS}
 
 -- ---- as they are written
 
@@ -42,10 +43,6 @@ candidate_header_read line = option_and_then name_read (text_behind (codes "? ")
 
 -- ---- numbers up to a limit, past which they do not matter
 
--- more than any count of a store
-abbrev pub past_counts : ℕ
-past_counts = 1000000
-
 -- a header whose count is known up to the limit
 abbrev pub capped_header : Option (ℕ × ℕ) → Option (ℕ × ℕ)
-capped_header header = option_map (λ h. (h.0, min h.1 past_counts)) header
+capped_header header = option_map (λ h. (h.0, min h.1 PAST_COUNTS)) header

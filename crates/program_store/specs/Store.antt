@@ -11,6 +11,7 @@ use Rattle.loda_semantics.specs.Exec.{Library}
 use Rattle.text_parts.specs.Names.{IsName}
 use Rattle.program_store.specs.declared.published.Published.{Published}
 use Rattle.program_store.specs.declared.published.Proposal.{Proposal}
+use Rattle.program_store.specs.declared.candidates.TheConstants.{MOST_JOBS}
 
 -- what is published, by name
 abbrev pub Store : Type 0
@@ -66,5 +67,5 @@ pub record IsProposal (p : Proposal) : Type 0 where
 
 -- at most a million proposals
 pub record AreCandidates (list : List Proposal) : Type 0 where
-  pub few : length list ≤ 1000000
+  pub few : length list ≤ MOST_JOBS
   pub each : All IsProposal list

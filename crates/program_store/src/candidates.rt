@@ -8,7 +8,10 @@ use crate::published::Proposal;
 use std::alloc::{AllocError, Global};
 use std::marker::Model;
 
-/// A list of at most 1,000,000 proposals.
+/// The most jobs of a run, and so the most proposals of a candidates file.
+pub const MOST_JOBS: u64 = 1_000_000;
+
+/// A list of at most `MOST_JOBS` proposals.
 #[derive(Drop)]
 pub struct Candidates {
     list: Vec<Proposal>,
@@ -39,7 +42,7 @@ impl Candidates {
 
     /// Adds a proposal at the end. After want of memory the list is as it was.
     pub fn push(&mut self, proposal: Proposal) -> Result<(), AllocError>
-        requires few { length self.old < 1000000 }
+        requires few { length self.old < MOST_JOBS }
         requires named { IsName proposal.name }
         ensures ok { OnOk result (self.new ≡ self.old ++ proposal ∷ []) }
         ensures err { OnErr result (self.new ≡ self.old) }
@@ -53,7 +56,7 @@ impl Candidates {
     /// How many proposals there are.
     pub fn len(&self) -> u64
         ensures value { result ≡ length self.now }
-        ensures few { result ≤ 1000000 }
+        ensures few { result ≤ MOST_JOBS }
     {
         self.list.len() as u64
     }

@@ -5,7 +5,7 @@ ghost use Rattle.std.specs.Option.{option_copied};
 ghost use Rattle.std.specs.List.{before_first, after_first};
 ghost use Rattle.text_parts.specs.Digits.{decimal_spelled, up_to};
 ghost use Rattle.text_parts.specs.Names.{IsName, name_read};
-ghost use Rattle.program_store.specs.Headers.{text_behind, is_space, name_and_count, store_header_read, candidate_header_read, capped_header, past_counts};
+ghost use Rattle.program_store.specs.Headers.{text_behind, is_space, name_and_count, store_header_read, candidate_header_read, capped_header};
 
 use crate::lines::header_content;
 use text_parts::{decimal_up_to, name_of};
@@ -73,7 +73,7 @@ fn cut_at_space(text: &[u8]) -> (&[u8], &[u8])
 
 // A decimal number without a sign or a leading 0, or `PAST_COUNTS` where it is no less.
 fn count_of(text: &[u8]) -> Option<u32>
-    ensures { result ≡ up_to past_counts (decimal_spelled text.now) }
+    ensures { result ≡ up_to PAST_COUNTS (decimal_spelled text.now) }
 {
     let count = decimal_up_to(text, PAST_COUNTS)?;
     Some(count as u32)

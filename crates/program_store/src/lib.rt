@@ -15,7 +15,7 @@ pub mod store;
 mod tests;
 pub mod view;
 
-pub use candidates::Candidates;
+pub use candidates::{Candidates, MOST_JOBS};
 pub use errors::{StoreError, StoreKind};
 pub use printing::print_store;
 pub use published::{Proposal, Published};

@@ -6,7 +6,7 @@ ghost use Rattle.text_parts.specs.Names.{IsName};
 ghost use Rattle.program_store.specs.Files.{program_read, entry_fault, entry_read, proposal_read, store_read, candidates_read};
 ghost use Rattle.program_store.specs.Answers.{ReadsAs, FileAnswers};
 
-use crate::candidates::Candidates;
+use crate::candidates::{Candidates, MOST_JOBS};
 use crate::errors::{StoreError, StoreKind};
 use crate::headers::{candidate_header_of, store_header_of};
 use crate::published::{Proposal, Published};
@@ -23,8 +23,6 @@ const CANDIDATES_SIGN: u8 = b'?';
 const LEAST_COUNT: u32 = 8;
 
 const GREATEST_COUNT: u32 = 32_768;
-
-const MOST_CANDIDATES: u64 = 1_000_000;
 
 /// The store of a store file's bytes. `Bad` comes exactly where the bytes are no store file, with the first fault: its kind
 /// and its line in the file.
@@ -128,16 +126,16 @@ fn entry_fault(last: u32, name: u32, checked: u32) -> Option<StoreKind>
 // The proposal of a section of a candidates file, behind so many sections.
 #[tactic(auto, unfolding(crate::specs::Files::proposal_read))]
 fn proposal_of(alloc: Global, before: u64, section: Section<'_>) -> Result<Proposal, StoreError>
-    requires before { before ≤ 1000000 }
+    requires before { before ≤ MOST_JOBS }
     requires fits { section.line + length section.text.now + 1 < 2 ^ 64 }
     ensures value { ReadsAs result (proposal_read (before + 1) (record { line = section.entry.line; header = section.entry.header.now; text = section.entry.text.now })) }
     ensures named { IfOk result (λ proposal. IsName proposal.name) }
-    ensures few { IfOk result (λ proposal. before < 1000000) }
+    ensures few { IfOk result (λ proposal. before < MOST_JOBS) }
 {
     let Some(name) = candidate_header_of(section.header) else {
         return Err(bad(section.line, StoreKind::BadHeader));
     };
-    if before == MOST_CANDIDATES {
+    if before == MOST_JOBS {
         return Err(bad(section.line, StoreKind::TooMany));
     }
     let program = program_of(alloc, section)?;

@@ -9,6 +9,7 @@ ghost use Rattle.program_store.specs.Store.{published_at, programs_of, with_prog
 
 use crate::published::Published;
 use loda_syntax::Program;
+use text_parts::GREATEST_NAME;
 
 /// Programs by their names.
 pub trait Library {
@@ -32,7 +33,7 @@ pub trait View: Library {
 
     /// The least published name above `after`. `None` exactly where there is none.
     fn next_name(&self, after: u32) -> Option<u32>
-        requires { after ≤ 999999 }
+        requires { after ≤ GREATEST_NAME }
         ensures some { IfSome result (λ n. (after < n) × IsSome (published_at (store self.now) n)) }
         ensures least { IfSome result (λ n. (k : ℕ) → after < k → k < n → published_at (store self.now) k ≡ None) }
         ensures none { IfNone result ((k : ℕ) → after < k → published_at (store self.now) k ≡ None) }

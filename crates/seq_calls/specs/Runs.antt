@@ -1,4 +1,4 @@
--- What is known of runs that call.
+-- What is known of runs that call. Only clauses of private functions use what stands here.
 use Rattle.std.specs.Prelude.{ℕ, ◌-◌, ◌<◌, ◌≤◌, ◌≡◌, ◌≢◌, ℤ, pos, Contains}
 use Rattle.std.specs.declared.option.Option.TheVariants.{Some}
 use Rattle.loda_semantics.specs.declared.kinds.Pair.{Pair}

@@ -1,4 +1,4 @@
--- What a run by frames gives.
+-- What a run by frames gives. Only clauses of private functions use what stands here.
 use Rattle.std.specs.Prelude.{ℕ, ◌+◌, ◌≡◌, ℤ, List, [], ◌∷◌}
 use Rattle.std.specs.declared.option.Option.{Option}
 use Rattle.std.specs.declared.option.Option.TheVariants.{Some, None}

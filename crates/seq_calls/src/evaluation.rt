@@ -4,7 +4,7 @@ ghost use Rattle.std.specs.Prelude.{◌≡◌, ◌+◌, ◌-◌, ◌≤◌, ◌<
 ghost use Rattle.std.specs.Option.{option_copied};
 ghost use Rattle.loda_semantics.specs.Exec.{run_name, run_text};
 ghost use Rattle.seq_calls.specs.Frames.{told, steps_of, nodes_of};
-ghost use Rattle.seq_calls.specs.Known.{IsKnown};
+ghost use Rattle.seq_calls.specs.Known.{IsFoundIn};
 ghost use Rattle.seq_calls.specs.Under.{IsRun};
 
 use crate::counting::Steps;
@@ -42,9 +42,9 @@ struct Known<'a> {
 // The program of a name. It is looked up where it is not the one that was found last.
 #[inline(always)]
 fn found<'a, B: Library>(lib: &'a B, last: &mut Option<Known<'a>>, name: u32) -> Option<&'a Program>
-    requires { IfSome last.old (IsKnown (B.programs lib.now)) }
+    requires { IfSome last.old (IsFoundIn (B.programs lib.now)) }
     ensures program { option_copied result ≡ B.programs lib.now name }
-    ensures last { IfSome last.new (IsKnown (B.programs lib.now)) }
+    ensures last { IfSome last.new (IsFoundIn (B.programs lib.now)) }
 {
     if let Some(known) = last {
         if known.name == name {

@@ -8,6 +8,7 @@ use Rattle.std.proofs.lemmas.Bool.Decides.{nat_tests}
 use Rattle.text_parts.specs.Digits.{digits_after, number_spelled}
 use Rattle.text_parts.proofs.Number.{below_million}
 use Rattle.text_parts.specs.Names.{IsName, last_digits, name_text, if_not_zero, name_read}
+use Rattle.text_parts.specs.declared.names.TheConstants.{GREATEST_NAME}
 
 digit_is : (d : ℕ) → d < 10 → is_ascii_digit (48 + d) ≡ true
 digit_is d lt = grind (arith, nat_tests)
@@ -25,11 +26,11 @@ six a b c d e f la lb lc ld le lf =
     ∙ one_digit (10 * (10 * (10 * (10 * 0 + a) + b) + c) + d) e ((48 + f) ∷ []) le
     ∙ one_digit (10 * (10 * (10 * (10 * (10 * 0 + a) + b) + c) + d) + e) f [] lf
 
-value_of : (q : ℕ) → q ≤ 999999
+value_of : (q : ℕ) → q ≤ GREATEST_NAME
     → 10 * (10 * (10 * (10 * (10 * (10 * 0 + q / 10 / 10 / 10 / 10 / 10 % 10) + q / 10 / 10 / 10 / 10 % 10) + q / 10 / 10 / 10 % 10) + q / 10 / 10 % 10) + q / 10 % 10) + q % 10 ≡ q
 value_of q le = omega arith
 
-digits_back : (q : ℕ) → q ≤ 999999 → number_spelled (last_digits 6 q) ≡ Some q
+digits_back : (q : ℕ) → q ≤ GREATEST_NAME → number_spelled (last_digits 6 q) ≡ Some q
 digits_back q le =
     six (q / 10 / 10 / 10 / 10 / 10 % 10) (q / 10 / 10 / 10 / 10 % 10) (q / 10 / 10 / 10 % 10) (q / 10 / 10 % 10) (q / 10 % 10) (q % 10) (omega arith) (omega arith) (omega arith) (omega arith) (omega arith) (omega arith)
     ∙ ap (λ n. Some n) (value_of q le)

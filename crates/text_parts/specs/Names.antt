@@ -2,10 +2,11 @@
 use Rattle.std.specs.Prelude.{ℕ, zero, suc, ◌/◌, ◌%◌, ◌+◌, ◌≤◌, ◌≡◌, List, [], ◌∷◌, ◌++◌, length, ◌==◌, ◌&&◌, if◌then◌else◌, Option, Some, None}
 use Rattle.std.specs.Option.{option_and_then}
 use Rattle.text_parts.specs.Digits.{number_spelled}
+use Rattle.text_parts.specs.declared.names.TheConstants.{GREATEST_NAME}
 
 -- a name: a number from 1 to 999,999
 abbrev pub IsName : ℕ → Type 0
-IsName q = (1 ≤ q) × (q ≤ 999999)
+IsName q = (1 ≤ q) × (q ≤ GREATEST_NAME)
 
 -- the last so many digits of a number, with leading zeros
 abbrev pub last_digits : ℕ → ℕ → List ℕ

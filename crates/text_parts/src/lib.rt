@@ -12,4 +12,4 @@ mod tests;
 pub use blanks::{is_blank, trim, trim_back, trim_front, without_return};
 pub use counts::{write_count, write_counted};
 pub use digits::{decimal_up_to, number_up_to};
-pub use names::{name_of, name_text};
+pub use names::{GREATEST_NAME, name_of, name_text};

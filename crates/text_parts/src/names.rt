@@ -6,8 +6,11 @@ ghost use Rattle.text_parts.specs.Names.{IsName, name_read, name_text};
 
 use crate::digits::number_up_to;
 
+/// The greatest name: a name has six digits.
+pub const GREATEST_NAME: u32 = 999_999;
+
 // More than any number of six digits.
-const PAST_SIX_DIGITS: u128 = 1_000_000;
+const PAST_SIX_DIGITS: u128 = GREATEST_NAME as u128 + 1;
 
 /// The name that a text stands for: `A` and six digits that are not all 0.
 #[tactic(auto, unfolding(crate::specs::Names::name_read))]
@@ -28,7 +31,7 @@ pub fn name_of(text: &[u8]) -> Option<u32>
 fn six_digits(digits: &[u8]) -> Option<u32>
     requires { length digits.now ≡ 6 }
     ensures value { result ≡ number_spelled digits.now }
-    ensures small { IfSome result (λ number. number ≤ 999999) }
+    ensures small { IfSome result (λ number. number ≤ GREATEST_NAME) }
 {
     let number = number_up_to(digits, PAST_SIX_DIGITS)?;
     Some(number as u32)

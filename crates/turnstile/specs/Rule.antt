@@ -1,4 +1,4 @@
--- The rule that ties the words, the slot and what all seats know to one history.
+-- The rule that ties the words, the slot and what all seats know to one history. Only clauses of private functions use what stands here.
 -- Word 0 is the length of the history, and word 1 is 1 while a seat holds the turn. The value lies in the slot, or is out with that seat.
 use Rattle.std.specs.Prelude.{◌≡◌, ◌≢◌, ◌≤◌, ℕ, true, false, List, [], ◌∷◌, length, Option, Some, None}
 use mathlib.Core.Option.{some, none}

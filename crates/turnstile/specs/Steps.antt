@@ -1,4 +1,4 @@
--- What each step tells its seat: of the step, the seat before it, the number found and the seat after it.
+-- What each step tells its seat: of the step, the seat before it, the number found and the seat after it. Only clauses of private functions use what stands here.
 use Rattle.std.specs.Prelude.{◌≡◌, ◌≢◌, ◌≤◌, ◌++◌, ℕ, List, [], ◌∷◌, length, max, Option, Some, None}
 use mathlib.Core.Option.{some}
 use mathlib.Core.List.{IsPrefix}

@@ -1,8 +1,9 @@
 use Rattle.std.proofs.Common.{◌≤◌, ◌-◌}
 use Rattle.judge.proofs.directory.count.Given as goal
+use Rattle.text_parts.specs.declared.names.TheConstants.{GREATEST_NAME}
 
 abbrev pub invariant-loop-name : goal.invariant-loop-name
-invariant-loop-name g l = (l.count ≤ l.last) × (l.last ≤ 999999)
+invariant-loop-name g l = (l.count ≤ l.last) × (l.last ≤ GREATEST_NAME)
 
 abbrev pub decreases-loop-name : goal.decreases-loop-name
-decreases-loop-name g l = 999999 - l.last
+decreases-loop-name g l = GREATEST_NAME - l.last

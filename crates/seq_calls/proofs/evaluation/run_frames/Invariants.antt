@@ -1,7 +1,7 @@
 use Rattle.std.proofs.Common.{is_some, ◌≡◌, ◌+◌, ◌*◌, ◌≤◌, length}
 use Rattle.std.specs.Prelude.{reverse, IfSome}
 use Rattle.loda_semantics.specs.Exec.{run_text}
-use Rattle.seq_calls.specs.Known.{IsKnown}
+use Rattle.seq_calls.specs.Known.{IsFoundIn}
 use Rattle.seq_calls.proofs.Under.{IsUnder}
 use Rattle.seq_calls.proofs.evaluation.run_frames.Given as goal
 
@@ -12,7 +12,7 @@ invariant-loop-frame g l = record {
   limit : l.limit ≡ l.fn.budget;
   name : l.name ≡ l.fn.name;
   kept : l.kept ≡ is_some l.fn.name;
-  last : IfSome l.last (IsKnown (g.B.Library.programs l.lib));
+  last : IfSome l.last (IsFoundIn (g.B.Library.programs l.lib));
 }
 
 abbrev pub decreases-loop-frame : goal.decreases-loop-frame
