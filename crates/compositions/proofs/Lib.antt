@@ -1,4 +1,4 @@
--- memories inside of others, read and written at a place
+-- memories inside of others, read and written at a moved_into
 pub mod Place
 -- a tree with direct cells does in other cells what it does in its own
 pub mod Shifted

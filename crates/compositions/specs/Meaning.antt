@@ -7,7 +7,7 @@ use Rattle.loda_syntax.specs.Trees.{tree_of}
 use Rattle.loda_semantics.specs.Memory.{Memory}
 use Rattle.loda_semantics.specs.Exec.{value, Calls, join, and_then, Callee, exec, Library, run_text}
 use Rattle.compositions.specs.Cells.{by, is_direct, top}
-use Rattle.compositions.specs.Places.{place, ending_in}
+use Rattle.compositions.specs.Places.{moved_into, ending_in}
 use Rattle.compositions.specs.Composed.{linear, linear_end, difference, sum}
 
 -- with n steps the text comes to the value w at x, in `used` of them and by these calls
@@ -60,7 +60,7 @@ SumMeans = (p : Text) → IsProgram (instrs p) → IsTrue (is_direct p) → IsSu
 -- with the same steps left and the same calls, and where it is done, the new memory holds there what the new own one holds, and elsewhere what it held.
 abbrev pub ProgramsMove : Type 0
 ProgramsMove = (callee : Callee) (p : Text) (d : ℕ) (base m : Memory) (n : ℕ) → IsTrue (is_direct p)
-    → exec callee (tree_of (by d p)) (place d (top p) base m) n ≡ ending_in (place d (top p) base) (exec callee (tree_of (instrs p)) m n)
+    → exec callee (tree_of (by d p)) (moved_into d (top p) base m) n ≡ ending_in (moved_into d (top p) base) (exec callee (tree_of (instrs p)) m n)
 
 -- A balanced text and then another one run one after the other.
 abbrev pub TextsFollow : Type 0

@@ -1,39 +1,33 @@
 //! Each line of the table of draws, by words that reach it.
 
 use super::*;
-use loda_syntax::{Program, print};
+use loda_syntax::print;
 use std::alloc::Global;
 use std::process::Abort;
 use word_stream::{Draws, Listed};
 
-// A word that stands behind the words of a row: the next draw shows that just those were taken.
-const MARK: u32 = 999_983;
-
 const NAMES: [u32; 3] = [45, 290, 16_742];
 
-fn marked(rt: &impl Abort, alloc: Global, words: &[u32]) -> Draws<Listed> {
-    let mut list = words.to_vec(alloc).expect(rt, "words");
-    list.push(MARK).expect(rt, "the mark");
-    Draws::new(Listed::new(list))
-}
-
-fn shows(rt: &impl Abort, alloc: Global, made: &Program, draws: &mut Draws<Listed>, want: &[u8]) {
-    let mut text = Vec::new(alloc);
-    print(made, &mut text).expect(rt, "a text");
-    assert!(rt; text.as_slice() == want, "{made:?}");
-    assert_eq!(rt; draws.below(4_294_967_295), MARK, "{made:?}");
-}
-
 fn unnamed(rt: &impl Abort, alloc: Global, words: &[u32], want: &[u8]) {
-    let mut draws = marked(rt, alloc, words);
-    let made = generate(alloc, &mut draws, &[]).expect(rt, "memory");
-    shows(rt, alloc, &made, &mut draws, want);
+    assert_drawn!(
+        rt,
+        alloc,
+        words,
+        draws,
+        generate(alloc, &mut draws, &[]),
+        want
+    );
 }
 
 fn named(rt: &impl Abort, alloc: Global, words: &[u32], want: &[u8]) {
-    let mut draws = marked(rt, alloc, words);
-    let made = generate(alloc, &mut draws, &NAMES).expect(rt, "memory");
-    shows(rt, alloc, &made, &mut draws, want);
+    assert_drawn!(
+        rt,
+        alloc,
+        words,
+        draws,
+        generate(alloc, &mut draws, &NAMES),
+        want
+    );
 }
 
 #[test]

@@ -6,6 +6,7 @@ use Rattle.compositions.specs.Composed.{linear, difference, sum}
 use Rattle.compositions.specs.Meaning.{IsLinear, IsDifference, IsSum}
 use Rattle.term_index.specs.declared.form.Form.{Form}
 use Rattle.term_index.specs.declared.form.Form.TheVariants.{Direct, Difference, Sum, Linear}
+use Rattle.loda_syntax.specs.declared.instr.TheConstants.{MEMORY_CELLS, MOST_INSTRS}
 
 -- the text that a form makes of a program
 abbrev pub form_text : Form → Text → Text
@@ -23,7 +24,7 @@ is_for (Linear a b) p = true
 
 -- at most 1,000 instructions, and no cell past 4095
 abbrev pub is_small : Text → Bool
-is_small q = nat_le (length q) 1000 && nat_lt (top q) 4096
+is_small q = nat_le (length q) MOST_INSTRS && nat_lt (top q) MEMORY_CELLS
 
 -- the text, where it is that small
 abbrev pub if_small : Text → Option Text

@@ -1,14 +1,14 @@
 //! The cells of a program.
 
-ghost use Rattle.std.specs.Prelude.{◌≡◌, ◌≤◌, ◌+◌, ◌++◌, All, OnOk};
+ghost use Rattle.std.specs.Prelude.{◌≡◌, ◌≤◌, ◌<◌, ◌+◌, ◌++◌, All, OnOk};
 ghost use Rattle.loda_syntax.specs.WellFormed.{IsTarget, IsSource, IsInstr};
 ghost use Rattle.compositions.specs.Cells as spec;
 
-use loda_syntax::{Instr, Operand};
+use loda_syntax::{Instr, MEMORY_CELLS, Operand};
 use std::alloc::AllocError;
 
 fn source_by(d: u16, operand: Operand) -> Operand
-    requires d { d ≤ 4096 }
+    requires d { d ≤ MEMORY_CELLS }
     requires cell { IsSource operand }
     ensures { result ≡ spec.operand_by d operand }
 {
@@ -20,7 +20,7 @@ fn source_by(d: u16, operand: Operand) -> Operand
 }
 
 fn target_by(d: u16, operand: Operand) -> Operand
-    requires d { d ≤ 4096 }
+    requires d { d ≤ MEMORY_CELLS }
     requires cell { IsTarget operand }
     ensures { result ≡ spec.operand_by d operand }
 {
@@ -33,7 +33,7 @@ fn target_by(d: u16, operand: Operand) -> Operand
 
 // The instruction with d added to each cell's number.
 fn instr_by(d: u16, instr: Instr) -> Instr
-    requires d { d ≤ 4096 }
+    requires d { d ≤ MEMORY_CELLS }
     requires instr { IsInstr instr }
     ensures { result ≡ spec.instr_by d instr }
 {
@@ -65,7 +65,7 @@ fn instr_by(d: u16, instr: Instr) -> Instr
 
 /// Adds the instructions, with d added to each cell's number.
 pub fn push_by(out: &mut Vec<Instr>, list: &[Instr], d: u16) -> Result<(), AllocError>
-    requires d { d ≤ 4096 }
+    requires d { d ≤ MEMORY_CELLS }
     requires list { All IsInstr list.now }
     ensures { OnOk result (out.new.items ≡ out.old.items ++ spec.by d list.now) }
 {
@@ -120,7 +120,7 @@ fn operand_top(operand: Operand) -> u16
 }
 
 fn region_top(start: u16, len: u16) -> u16
-    requires { start + len ≤ 4096 }
+    requires { start + len ≤ MEMORY_CELLS }
     ensures { result ≡ spec.region_top start len }
 {
     if len == 0 { start } else { start + (len - 1) }
@@ -147,7 +147,7 @@ fn instr_top(instr: &Instr) -> u16
 pub fn top(list: &[Instr]) -> u16
     requires { All IsInstr list.now }
     ensures value { result ≡ spec.top list.now }
-    ensures bound { result ≤ 4095 }
+    ensures bound { result < MEMORY_CELLS }
 {
     let mut top = 0;
     for instr in list {

@@ -1,5 +1,5 @@
 //! The composed program of a form.
-ghost use Rattle.std.specs.Prelude.{◌≡◌, ◌≤◌, ◌+◌, ◌++◌, ◌/◌, ◌%◌, true, All, OnOk, IfOk, IfSome};
+ghost use Rattle.std.specs.Prelude.{◌≡◌, ◌<◌, ◌+◌, ◌++◌, ◌/◌, ◌%◌, true, All, OnOk, IfOk, IfSome};
 ghost use Rattle.checked_numbers.specs.Numbers.{IsNumber};
 ghost use Rattle.loda_syntax.specs.WellFormed.{IsInstr, IsProgram};
 ghost use Rattle.loda_syntax.specs.declared.instr.Instr.TheVariants as instrs;
@@ -10,7 +10,7 @@ ghost use Rattle.matchers.specs.Composing.{is_small, if_small, composed, Means};
 
 use crate::cells;
 use checked_numbers::Num;
-use loda_syntax::{Instr, Operand, Program, Verb};
+use loda_syntax::{Instr, MEMORY_CELLS, Operand, Program, Verb};
 use std::alloc::{AllocError, Global};
 use term_index::Form;
 
@@ -40,7 +40,7 @@ fn push_linear_end(out: &mut Vec<Instr>, a: Num, b: Num) -> Result<(), AllocErro
 
 // Clears the u + 1 cells from 2 on.
 fn push_clears(out: &mut Vec<Instr>, u: u16) -> Result<(), AllocError>
-    requires { u ≤ 4095 }
+    requires { u < MEMORY_CELLS }
     ensures { OnOk result (out.new.items ≡ out.old.items ++ spec.clears (u / 1024) 2 (u % 1024 + 1)) }
 {
     let full = u / 1024;

@@ -10,6 +10,7 @@ use Rattle.loda_syntax.specs.declared.instr.Instr.TheVariants.{Arith, Clear, Loo
 use Rattle.generator.specs.Arithmetic.{verb_at, drawn_arithmetic}
 use Rattle.generator.proofs.FirstWords.{same-drawn_arithmetic}
 use Rattle.mutator.specs.Mutating.{drawn_instr, moved, redrawn, nudged, retargeted, renamed, changed_instr, changed_at, lengthened, changed, changes, mutated}
+use Rattle.loda_syntax.specs.declared.instr.TheConstants.{MOST_INSTRS}
 
 -- the same next words, of which a change of an instruction takes four at most
 abbrev SameFour : ℕ → Stream → Stream → Type 0
@@ -97,7 +98,7 @@ same-lengthened list n one other s =
     let R : List Instr × Stream → List Instr × Stream → Type 0 = λ p q. SameDrawn n p q in
     let place = same_first (suc (suc (suc (suc n)))) one other s (length list + 1) in
     let new = same-drawn_instr n (rest one) (rest other) (same_rest (suc (suc (suc (suc n)))) one other s) in
-    of_choices R (length list == 1000) (length list == 1000) _ _ _ _ refl
+    of_choices R (length list == MOST_INSTRS) (length list == MOST_INSTRS) _ _ _ _ refl
     (none n list one other (same_fewer (suc (suc (suc (suc (suc n))))) (suc (suc (suc (suc n)))) one other (omega arith) s))
     (record { value = λ i. insert list (place i) (new.value i); words = new.words })
 

@@ -17,6 +17,7 @@ use Rattle.generator.proofs.Choices.{of_either}
 use Rattle.generator.proofs.MadeWell.{IsInstr-drawn_arithmetic}
 use Rattle.mutator.specs.Mutating.{drawn_instr, moved, redrawn, nudged, retargeted, renamed, changed_instr, changed_at, changed, changes, mutated, is_bracket}
 use Rattle.mutator.proofs.Balance.{StandsFor, balanced_set, balanced_insert, balanced_remove}
+use Rattle.loda_syntax.specs.declared.instr.TheConstants.{MOST_INSTRS}
 
 -- an instruction that may be put in another one's place
 record MayReplace (old new : Instr) : Type 0 where
@@ -112,7 +113,7 @@ program-remove list place false test is = record {
   balanced = balanced_remove list place 0 test is.balanced;
 }
 
-program-insert : (list : List Instr) (place : ℕ) (new : Instr) → place ≤ length list → length list < 1000 → IsInstr new
+program-insert : (list : List Instr) (place : ℕ) (new : Instr) → place ≤ length list → length list < MOST_INSTRS → IsInstr new
     → is_bracket new ≡ false → IsProgram list → IsProgram (insert list place new)
 program-insert list place new there room in_range plain is = record {
   short = omega (arith, length-insert list place new there, room);
@@ -136,13 +137,13 @@ longer list words =
 lengthened_by : Bool → List Instr → Stream → List Instr × Stream
 lengthened_by full list words = if full then (list, words) else longer list words
 
-program-lengthened : (list : List Instr) (words : Stream) (full : Bool) → (length list == 1000) ≡ full → IsProgram list
+program-lengthened : (list : List Instr) (words : Stream) (full : Bool) → (length list == MOST_INSTRS) ≡ full → IsProgram list
     → IsProgram (lengthened_by full list words).0
 unfolding longer lengthened_by
 program-lengthened list words true test is = is
 program-lengthened list words false test is =
     let short = is.short in
-    let room : length list < 1000 = grind arith in
+    let room : length list < MOST_INSTRS = grind arith in
     let there : below (length list + 1) words ≤ length list = omega arith in
     program-insert list _ _ there room (IsInstr-drawn_arithmetic (verb_at (below 12 (rest words))) (rest (rest words))) refl is
 

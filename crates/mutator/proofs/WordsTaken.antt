@@ -10,6 +10,7 @@ use Rattle.generator.specs.Arithmetic.{verb_at}
 use Rattle.generator.proofs.Choices.{of_either}
 use Rattle.generator.proofs.WordsTaken.{within-drawn_arithmetic}
 use Rattle.mutator.specs.Mutating.{drawn_instr, redrawn, nudged, retargeted, renamed, changed_instr, changed_at, lengthened, changed, changes, mutated}
+use Rattle.loda_syntax.specs.declared.instr.TheConstants.{MOST_INSTRS}
 
 -- no word, of at most four
 none : (words : Stream) → IsDrawnWithin 4 words words
@@ -72,7 +73,7 @@ within-changed_at m names list place words =
 
 within-lengthened : (list : List Instr) (words : Stream) → IsDrawnWithin 5 words (lengthened list words).1
 within-lengthened list words =
-    of_either (λ (made : List Instr × Stream). IsDrawnWithin 5 words made.1) (length list == 1000) _ _
+    of_either (λ (made : List Instr × Stream). IsDrawnWithin 5 words made.1) (length list == MOST_INSTRS) _ _
     (drawn_within 4 5 words words (omega arith) (none words)) (drawn_first 4 words _ (within-drawn_instr (rest words)))
 
 within-changed : (names : List ℕ) (list : List Instr) (words : Stream) → IsDrawnWithin 6 words (changed names list words).1

@@ -6,6 +6,7 @@ use Rattle.loda_syntax.specs.declared.instr.Operand.TheVariants.{Constant, Direc
 use Rattle.loda_syntax.specs.declared.instr.Instr.{Instr}
 use Rattle.loda_syntax.specs.declared.instr.Instr.TheVariants.{Arith, LoopStart, LoopEnd, Call}
 use Rattle.generator.specs.Arithmetic.{verb_at, drawn_arithmetic}
+use Rattle.loda_syntax.specs.declared.instr.TheConstants.{MOST_INSTRS}
 
 -- an arithmetic instruction whose verb is drawn too, and the words that are left
 abbrev pub drawn_instr : Stream → Instr × Stream
@@ -67,7 +68,7 @@ changed_at m names list place words =
 -- an instruction is put before a place or at the end, where there is room
 abbrev pub lengthened : List Instr → Stream → List Instr × Stream
 lengthened list words =
-    if length list == 1000 then (list, words)
+    if length list == MOST_INSTRS then (list, words)
     else
     let new = drawn_instr (rest words) in
     (insert list (below (length list + 1) words) new.0, new.1)

@@ -5,23 +5,21 @@ ghost use Rattle.generator.specs.Names.{AreNames};
 ghost use Rattle.mutator.specs.Mutating.{changed_at, lengthened, changed};
 
 use crate::instruction::{change_instr, draw_instr, is_bracket};
-use loda_syntax::Instr;
+use loda_syntax::{Instr, MOST_INSTRS};
 use rand_core::Rng;
 use word_stream::Draws;
 
 // No list becomes longer than this.
-const MOST: usize = 1000;
-
 fn lengthen<R: Rng>(list: &mut Vec<Instr>, draws: &mut Draws<R>)
-    requires short { vec_len list.old ≤ 1000 }
+    requires short { vec_len list.old ≤ MOST_INSTRS }
     requires room { vec_len list.old < vec_capacity list.old }
     ensures list { list.new.items ≡ (lengthened list.old.items (R.stream draws.old)).0 }
     ensures words { R.stream draws.new ≡ (lengthened list.old.items (R.stream draws.old)).1 }
-    ensures short { vec_len list.new ≤ 1000 }
+    ensures short { vec_len list.new ≤ MOST_INSTRS }
     ensures longer { vec_len list.new ≤ vec_len list.old + 1 }
     ensures room { vec_capacity list.new ≡ vec_capacity list.old }
 {
-    if list.len() == MOST {
+    if list.len() == MOST_INSTRS {
         return;
     }
     let place = draws.below(list.len() as u32 + 1) as usize;
@@ -57,12 +55,12 @@ fn change_at<R: Rng>(
 
 // One change.
 pub fn change<R: Rng>(list: &mut Vec<Instr>, draws: &mut Draws<R>, names: &[u32])
-    requires short { vec_len list.old ≤ 1000 }
+    requires short { vec_len list.old ≤ MOST_INSTRS }
     requires room { vec_len list.old < vec_capacity list.old }
     requires names { AreNames names.now }
     ensures list { list.new.items ≡ (changed names.now list.old.items (R.stream draws.old)).0 }
     ensures words { R.stream draws.new ≡ (changed names.now list.old.items (R.stream draws.old)).1 }
-    ensures short { vec_len list.new ≤ 1000 }
+    ensures short { vec_len list.new ≤ MOST_INSTRS }
     ensures longer { vec_len list.new ≤ vec_len list.old + 1 }
     ensures room { vec_capacity list.new ≡ vec_capacity list.old }
 {

@@ -8,14 +8,14 @@ ghost use Rattle.generator.specs.Names.{AreNames};
 ghost use Rattle.mutator.specs.Mutating.{mutated};
 
 use crate::list::change;
-use loda_syntax::{Instr, Program};
+use loda_syntax::{Instr, MOST_INSTRS, Program};
 use rand_core::Rng;
 use std::alloc::{AllocError, Global};
 use word_stream::Draws;
 
 // A copy with room for three more, since each of the at most three changes adds one instruction at most.
 fn copy_with_room(alloc: Global, list: &[Instr]) -> Result<Vec<Instr>, AllocError>
-    requires { length list.now ≤ 1000 }
+    requires { length list.now ≤ MOST_INSTRS }
     ensures items { IfOk result (λ copy. copy.items ≡ list.now) }
     ensures len { IfOk result (λ copy. vec_len copy ≡ length list.now) }
     ensures room { IfOk result (λ copy. vec_len copy + 3 ≤ vec_capacity copy) }

@@ -1,4 +1,4 @@
--- Rows by the keys of their terms.
+-- Rows by the keys of their terms. Only clauses of private functions use what stands here.
 use Rattle.std.specs.Prelude.{ℕ, ◌≡◌, ◌==◌, ℤ, List, [], ◌∷◌, filter, map, nat_eq, Bool}
 use Rattle.std.specs.Global.{Vec}
 use Rattle.std.specs.List.{AllByRecursion}

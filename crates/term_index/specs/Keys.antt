@@ -1,4 +1,4 @@
--- Two keys of terms: one is the same for all rows that follow from one another by a factor and a shift, the other for rows of equal sizes.
+-- Two keys of terms: one is the same for all rows that follow from one another by a factor and a shift, the other for rows of equal sizes. Only clauses of private functions use what stands here.
 use Rattle.std.specs.Prelude.{ℕ, ◌+◌, ◌*◌, ◌/◌, ◌%◌, ◌^◌, ◌==◌, ℤ, ◌-ℤ◌, unsigned_abs, List, [], ◌∷◌, if◌then◌else◌}
 
 -- how far each is from the first
