@@ -1,15 +1,15 @@
 -- A table of some runs is a table of all runs of which they are a closed part.
-use Rattle.std.proofs.Common.{ℕ, zero, suc, ◌+◌, ◌<◌, ◌≤◌, arith, Contains, ◌≡◌, refl, sym, ap, subst, ◌∙◌}
+use Rattle.std.proofs.Common.{ℕ, zero, suc, ◌+◌, ◌≤◌, arith, Contains, ◌≡◌, refl, sym, ap, subst, ◌∙◌}
 use Rattle.std.specs.Prelude.{IsSome}
 use Rattle.std.specs.declared.option.Option.{Option}
 use Rattle.std.specs.declared.option.Option.TheVariants.{Some, None}
 use Rattle.loda_semantics.specs.declared.kinds.Pair.{Pair}
 use Rattle.demand_table.specs.declared.entry.Entry.{Entry}
-use Rattle.demand_table.specs.Drawn.{CheckedRanges, Runs, IsChecked, RunCalls, ReachedAfter, IsReached, IsClosed, HasNoCycle, Drawing, node_entry, IsDrawn}
+use Rattle.demand_table.specs.Drawn.{CheckedRanges, Runs, RunCalls, ReachedAfter, IsClosed, HasNoCycle, Drawing, node_entry, IsDrawn}
 use Rattle.std.specs.Option.{option_map}
 use Rattle.demand_table.specs.declared.node.Node.{Node}
 use Rattle.demand_table.specs.Mended.{runs_of}
-use Rattle.demand_table.proofs.Counted.{some_is, same_entry, none_is_some}
+use Rattle.demand_table.proofs.Counted.{some_is, same_entry}
 use Rattle.demand_table.proofs.Drawings.{live_stands}
 
 module _ (C : CheckedRanges) (R S : Runs) (closed : IsClosed C R) (part : (p : Pair) (e : Entry) → R p ≡ Some e → S p ≡ Some e) where

@@ -25,7 +25,7 @@ use Rattle.demand_table.specs.declared.node.Node.{Node}
 use Rattle.demand_table.specs.Drawn.{CheckedRanges, Runs, IsChecked, RunCalls as CallsIn, with_range, IsReached, IsClosed, TotalsFit, Drawing, node_entry, IsDrawn}
 use Rattle.demand_table.specs.Mended.{run_of, run_at, either, apart_from, mended, Fits, runs_of}
 use Rattle.demand_table.specs.Table.{runs_in_library, steps_at, from_zero, checks_in_store, IsDemandTable, AreFramesOf, IsWanted, MayReplace}
-use Rattle.demand_table.proofs.Counts.{nil-cases, cons-cases, cons-here, cons-more}
+use Rattle.demand_table.proofs.Counts.{nil-cases, cons-cases, cons-here}
 use Rattle.demand_table.proofs.Counted.{some_is, is_some}
 use Rattle.demand_table.proofs.Pairs.{same_parts}
 use Rattle.demand_table.proofs.Placing.{same_pair, test_true}

@@ -11,10 +11,8 @@ use Rattle.program_store.specs.Store.{Store, IsStore, published_at, programs_of,
 use Rattle.seq_calls.specs.Frames.{pair}
 use Rattle.seq_calls.specs.Runs.{HasValues}
 use Rattle.demand_table.specs.declared.entry.Entry.{Entry}
-use Rattle.demand_table.specs.declared.node.Node.{Node}
-use Rattle.demand_table.specs.declared.range.Range.{Range}
 use Rattle.demand_table.specs.declared.work.Work.{Work}
-use Rattle.demand_table.specs.Drawn.{CheckedRanges, Runs, IsChecked, RunCalls, IsClosed, TotalsFit, Drawing, node_entry, IsDrawn}
+use Rattle.demand_table.specs.Drawn.{CheckedRanges, Runs, IsChecked, RunCalls, IsClosed, TotalsFit, node_entry, IsDrawn}
 use Rattle.demand_table.specs.Filed.{IsWrittenDown}
 use Rattle.demand_table.specs.Gathered.{IsUndrawn, AreLiveRuns}
 use Rattle.demand_table.specs.Held.{Covers, IsHeld}
@@ -23,9 +21,8 @@ use Rattle.demand_table.specs.Mended.{drawing_of}
 use Rattle.demand_table.specs.Mending.{IsForgetting}
 use Rattle.demand_table.specs.Reaching.{Index}
 use Rattle.demand_table.specs.Settling.{IsUnsettled, CanSettle, Settles}
-use Rattle.demand_table.specs.Table.{runs_in_library, steps_at, checks_in_store, IsDemandTable}
+use Rattle.demand_table.specs.Table.{runs_in_library, steps_at, checks_in_store}
 use Rattle.demand_table.specs.Tabled.{IsTabled}
-use Rattle.demand_table.specs.Upward.{names_filed_under}
 use Rattle.demand_table.specs.Work.{Slots, runs_in, IsDropped}
 use Rattle.demand_table.proofs.Counted.{some_is, is_some}
 use Rattle.demand_table.proofs.Pairs.{same_parts}

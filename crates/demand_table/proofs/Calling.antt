@@ -1,10 +1,10 @@
 -- The arguments of the nodes that have callers are those that nodes call.
-use Rattle.std.proofs.Common.{ℕ, zero, suc, ◌+◌, ◌<◌, ◌≡◌, ◌⊎◌, inl, inr, refl, sym, ap, subst, ◌∙◌, Bool, true, false, ℤ, ◌<ℤ◌, List, [], ◌∷◌, ◌++◌, Contains, if◌then◌else◌, arith, append_assoc}
-use Rattle.std.specs.Prelude.{IsSome, ◌↔◌}
+use Rattle.std.proofs.Common.{ℕ, zero, suc, ◌<◌, ◌≡◌, inl, inr, refl, sym, ap, subst, ◌∙◌, Bool, true, false, ℤ, ◌<ℤ◌, List, [], ◌∷◌, ◌++◌, Contains, if◌then◌else◌, arith, append_assoc}
+use Rattle.std.specs.Prelude.{IsSome}
 use Rattle.std.specs.Ordering.{int_eq}
 use Rattle.std.specs.declared.option.Option.{Option}
 use Rattle.std.specs.declared.option.Option.TheVariants.{Some, None}
-use Rattle.std.specs.Option.{option_and_then, option_map}
+use Rattle.std.specs.Option.{option_and_then}
 use Rattle.std.specs.FinMap as map
 use Rattle.std.proofs.lemmas.List.{append-nil}
 use Rattle.std.proofs.lemmas.Bool.Decides.{Decides-int_eq}
@@ -12,12 +12,12 @@ use Rattle.loda_semantics.specs.declared.kinds.Pair.{Pair}
 use Rattle.demand_table.specs.declared.node.Node.{Node}
 use Rattle.demand_table.specs.declared.node.Folder.{Folder}
 use Rattle.demand_table.specs.Counts.{IsCount}
-use Rattle.demand_table.specs.Drawn.{CheckedRanges, Runs, RunCalls, ReachedAfter, IsReached, Drawing, node_entry, NodeCalls, IsDrawn}
+use Rattle.demand_table.specs.Drawn.{CheckedRanges, Runs, Drawing, node_entry, NodeCalls, IsDrawn}
 use Rattle.demand_table.specs.Loaded.{Folders, node_in, node_at, checks_of, the_pair}
-use Rattle.demand_table.specs.Ascending.{Ascends, AllAscend}
+use Rattle.demand_table.specs.Ascending.{Ascends}
 use Rattle.demand_table.specs.Demanded.{Rises, IsCalled, AreCalled, called_here, called_in}
-use Rattle.demand_table.proofs.Counts.{nil-cases, cons-cases, cons-here, cons-same, cons-more, none_of_zero, some_of_count}
-use Rattle.demand_table.proofs.Filing.{found_arg}
+use Rattle.demand_table.proofs.Counts.{nil-cases, cons-cases, cons-same, cons-more, none_of_zero, some_of_count}
+use Rattle.demand_table.proofs.Writing_down.{found_arg}
 
 pub called_push : (ns : List Node) (n : Node) → called_in (ns ++ n ∷ []) ≡ called_in ns ++ called_here n.callers n.arg
 called_push [] n = append-nil (called_here n.callers n.arg)

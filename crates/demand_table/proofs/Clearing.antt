@@ -1,10 +1,9 @@
 -- The runs of a name are taken out, one after the other.
-use Rattle.std.proofs.Common.{ℕ, suc, ◌+◌, ◌-◌, ◌<◌, ◌≤◌, ◌≡◌, ◌⊎◌, inl, inr, refl, sym, ap, subst, ◌∙◌, Bool, true, false, ℤ, List, [], ◌∷◌, ◌++◌, Contains, if◌then◌else◌, arith}
+use Rattle.std.proofs.Common.{ℕ, ◌-◌, ◌≡◌, ◌⊎◌, inl, inr, refl, sym, ap, subst, ◌∙◌, Bool, true, false, ℤ, List, [], ◌∷◌, ◌++◌, Contains, if◌then◌else◌, arith}
 use Rattle.std.specs.Prelude.{IsSome}
 use Rattle.std.specs.Ordering.{int_eq}
 use Rattle.std.specs.declared.option.Option.{Option}
 use Rattle.std.specs.declared.option.Option.TheVariants.{Some, None}
-use Rattle.std.proofs.lemmas.Bool.{cases_eq}
 use Rattle.std.proofs.lemmas.Bool.Decides.{Decides-int_eq}
 use Rattle.loda_semantics.specs.declared.kinds.Pair.{Pair}
 use Rattle.demand_table.specs.declared.entry.Entry.{Entry}
@@ -22,7 +21,7 @@ use Rattle.demand_table.proofs.Counts.{count_less}
 use Rattle.demand_table.proofs.Counted.{none_is_some, is_some, taken-counted}
 use Rattle.demand_table.proofs.Pairs.{pair_cases, has_cases, same_parts}
 use Rattle.demand_table.proofs.Dead.{set_callers, taken_from}
-use Rattle.demand_table.proofs.Loaded.{node_in-kept, node_in-new}
+use Rattle.demand_table.proofs.Loaded.{node_in-new}
 
 -- there was no run
 pub out_none : (old new : Slots) (p : Pair) (pending : List Pair) (many : ℕ) → IsCounted old → IsCount (λ q. IsSome (old q).entry) many → (old p).entry ≡ None → IsSet old new p (without_run (old p))
@@ -88,12 +87,6 @@ clearing_none w name pending many counted count = record {
   keeps = λ q at. at;
   fell = λ q none. inl none;
 }
-
-pub clearing_copied : (old now : Slots) (name : ℕ) (done : List Node) (pending : List Pair) (many : ℕ) → ((q : Pair) → now q ≡ old q) → IsClearing old old name done pending pending many → IsClearing old now name done pending pending many
-clearing_copied old now name done pending many same h = subst (λ (k : Slots). IsClearing old k name done pending pending many) (sym all) h
-  where
-    all : now ≡ old
-    all = λ i q. same q i
 
 pub clearing_more : (old w new : Slots) (name : ℕ) (done : List Node) (n : Node) (pending now after : List Pair) (left less : ℕ) → IsClearing old w name done pending now left → IsOut w new (the_pair name n.arg) now after less
     → IsClearing old new name (done ++ n ∷ []) pending after less

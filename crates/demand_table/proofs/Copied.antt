@@ -1,6 +1,5 @@
 -- A store is copied name by name.
 use Rattle.std.proofs.Common.{ℕ, zero, suc, ◌<◌, ◌≤◌, ◌≡◌, refl, sym, ap, subst, ◌∙◌, arith, pos, inl, inr, []}
-use Rattle.std.specs.Prelude.{◌⊎◌}
 use Rattle.std.specs.declared.option.Option.{Option}
 use Rattle.std.specs.declared.option.Option.TheVariants.{Some, None}
 use Rattle.std.specs.Option.{option_map, option_and_then}
@@ -13,7 +12,6 @@ use Rattle.loda_semantics.specs.declared.kinds.Pair.{Pair}
 use Rattle.program_store.specs.declared.published.Published.{Published}
 use Rattle.program_store.specs.Store.{Store, IsStore, published_at}
 use Rattle.demand_table.specs.declared.node.Folder.{Folder}
-use Rattle.demand_table.specs.declared.range.Range.{Range}
 use Rattle.demand_table.specs.Ascending.{Ascends, AllAscend}
 use Rattle.demand_table.specs.Gathered.{IsUndrawn}
 use Rattle.demand_table.specs.Loaded.{Folders, node_in, node_at, checks_of}

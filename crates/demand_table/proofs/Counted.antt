@@ -1,15 +1,14 @@
 -- The numbers of callers stay right where a run is taken out or put in.
-use Rattle.std.proofs.Common.{ℕ, suc, ◌<◌, ◌≡◌, ◌⊎◌, inl, inr, refl, sym, ap, subst, ◌∙◌, List, Contains, arith}
+use Rattle.std.proofs.Common.{ℕ, suc, ◌≡◌, ◌⊎◌, inl, inr, refl, sym, subst, ◌∙◌, Contains, arith}
 use Rattle.std.specs.Prelude.{IsSome}
 use Rattle.std.specs.declared.option.Option.{Option}
 use Rattle.std.specs.declared.option.Option.TheVariants.{Some, None}
 use Rattle.loda_semantics.specs.declared.kinds.Pair.{Pair}
 use Rattle.demand_table.specs.declared.entry.Entry.{Entry}
-use Rattle.demand_table.specs.declared.slot.Slot.{Slot}
 use Rattle.demand_table.specs.Counts.{IsCount}
 use Rattle.demand_table.specs.Drawn.{Runs, RunCalls}
 use Rattle.demand_table.specs.Work.{Slots, runs_in, IsCounted, IsTakenOut, IsPut}
-use Rattle.demand_table.proofs.Counts.{count_same, count_more, count_less, none_of_zero}
+use Rattle.demand_table.proofs.Counts.{count_same, count_more, count_less}
 use Rattle.demand_table.proofs.Pairs.{pair_cases, has_cases}
 
 -- ---- what stands in an option

@@ -1,9 +1,9 @@
 -- Where nothing is left that nobody calls and no check needs, the runs that stand are the live ones.
-use Rattle.std.proofs.Common.{ℕ, zero, suc, ◌+◌, ◌-◌, ◌<◌, ◌≤◌, ◌≡◌, ◌⊎◌, inl, inr, refl, sym, ap, subst, ◌∙◌, List, [], ◌∷◌, ◌++◌, Contains, max, arith}
+use Rattle.std.proofs.Common.{ℕ, zero, suc, ◌+◌, ◌<◌, ◌≤◌, ◌≡◌, ◌⊎◌, inl, inr, sym, ap, subst, ◌∙◌, List, [], ◌∷◌, ◌++◌, Contains, max, arith}
 use Rattle.std.specs.Prelude.{IsSome}
 use Rattle.std.specs.declared.option.Option.{Option}
 use Rattle.std.specs.declared.option.Option.TheVariants.{Some, None}
-use Rattle.std.proofs.lemmas.Bool.{cases_lt, cases_eq}
+use Rattle.std.proofs.lemmas.Bool.{cases_eq}
 use Rattle.std.proofs.lemmas.List.Elements.{Contains-push_cases}
 use Rattle.loda_semantics.specs.declared.kinds.Pair.{Pair}
 use Rattle.demand_table.specs.declared.entry.Entry.{Entry}
@@ -13,7 +13,7 @@ use Rattle.demand_table.specs.Work.{Slots, runs_in, without_run, IsSet, IsCounte
 use Rattle.demand_table.specs.declared.slot.Slot.{Slot}
 use Rattle.demand_table.proofs.Counts.{nil-cases, cons-cases, count_less, none_of_zero, some_of_count}
 use Rattle.demand_table.proofs.Pairs.{pair_cases, has_cases}
-use Rattle.demand_table.proofs.Counted.{none_is_some, some_is, is_some, same_entry, calls_of_entry, taken-counted}
+use Rattle.demand_table.proofs.Counted.{none_is_some, some_is, is_some, same_entry, taken-counted}
 
 -- a number above those that f gives on a list
 above : (f : Pair → ℕ) (ps : List Pair) → (n : ℕ) × ((p : Pair) → Contains ps p → f p < n)

@@ -1,5 +1,5 @@
 -- From a table to the slots in which it is mended, and back.
-use Rattle.std.proofs.Common.{ℕ, zero, suc, ◌+◌, ◌<◌, ◌≤◌, ◌≡◌, ◌⊎◌, inl, inr, refl, sym, ap, subst, ◌∙◌, List, [], ◌∷◌, Contains, sum_by, arith}
+use Rattle.std.proofs.Common.{ℕ, zero, suc, ◌+◌, ◌<◌, ◌≡◌, ◌⊎◌, inl, inr, refl, sym, ap, subst, ◌∙◌, List, [], ◌∷◌, Contains, sum_by, arith}
 use Rattle.std.specs.Prelude.{IsSome}
 use Rattle.std.specs.declared.option.Option.{Option}
 use Rattle.std.specs.declared.option.Option.TheVariants.{Some, None}
@@ -12,10 +12,10 @@ use Rattle.demand_table.specs.declared.slot.Slot.{Slot}
 use Rattle.demand_table.specs.Counts.{IsCount}
 use Rattle.demand_table.specs.Drawn.{CheckedRanges, Runs, IsChecked, RunCalls, ReachedAfter, IsReached, IsClosed, HasNoCycle, AreTotals, Drawing, node_entry, total_at, NodeCalls, IsDrawn}
 use Rattle.demand_table.specs.Work.{Slots, runs_in, IsCounted, IsDropping, IsDropped}
-use Rattle.demand_table.specs.Settling.{IsUnsettled, CanSettle, Settles}
+use Rattle.demand_table.specs.Settling.{IsUnsettled, CanSettle}
 use Rattle.demand_table.specs.Mended.{node_with, node_from, drawing_of}
 use Rattle.demand_table.proofs.Counts.{cons-here, cons-more, count_same, count_one}
-use Rattle.demand_table.proofs.Counted.{none_is_some, some_is, is_some, same_entry}
+use Rattle.demand_table.proofs.Counted.{some_is, is_some, same_entry}
 use Rattle.demand_table.proofs.Dead.{live_call}
 
 -- sums of functions that agree on the list

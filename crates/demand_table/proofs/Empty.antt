@@ -1,5 +1,5 @@
 -- The table without names.
-use Rattle.std.proofs.Common.{ℕ, zero, suc, ◌≡◌, refl, sym, ap, subst, ◌∙◌, List, [], ◌∷◌, Contains}
+use Rattle.std.proofs.Common.{ℕ, zero, suc, ◌≡◌, refl, sym, ap, ◌∙◌, []}
 use Rattle.std.specs.Prelude.{IsSome}
 use Rattle.std.specs.declared.option.Option.{Option}
 use Rattle.std.specs.declared.option.Option.TheVariants.{Some, None}
@@ -12,10 +12,9 @@ use Rattle.demand_table.specs.declared.node.Node.{Node}
 use Rattle.demand_table.specs.declared.node.Folder.{Folder}
 use Rattle.demand_table.specs.declared.range.Range.{Range}
 use Rattle.demand_table.specs.Counts.{IsCount}
-use Rattle.demand_table.specs.Drawn.{CheckedRanges, Runs, IsChecked, RunCalls, ReachedAfter, IsReached, Drawing, node_entry, IsDrawn}
+use Rattle.demand_table.specs.Drawn.{CheckedRanges, ReachedAfter, Drawing, node_entry, IsDrawn}
 use Rattle.demand_table.specs.Loaded.{Folders, node_in, node_at, checks_of}
 use Rattle.demand_table.specs.Mended.{runs_of}
-use Rattle.demand_table.specs.Ascending.{AllAscend}
 use Rattle.demand_table.specs.Reaching.{Index}
 use Rattle.demand_table.specs.Held.{IsHeld}
 use Rattle.demand_table.proofs.Counts.{nil-cases}

@@ -1,77 +1,38 @@
 -- Slots that are written down as the nodes of folders.
-use Rattle.std.proofs.Common.{ℕ, ◌≡◌, ◌⊎◌, inl, inr, refl, sym, ap, subst, ◌∙◌, Bool, true, false, ℤ, ◌<ℤ◌, List, [], ◌∷◌, ◌++◌, Contains, if◌then◌else◌, ◌==◌, cond, arith}
+use Rattle.std.proofs.Common.{ℕ, ◌≡◌, ◌⊎◌, inl, inr, refl, sym, ap, subst, ◌∙◌, Bool, true, false, ℤ, List, [], ◌∷◌, if◌then◌else◌, ◌==◌, cond, arith}
 use Rattle.std.specs.Prelude.{IsSome}
 use Rattle.std.specs.declared.option.Option.{Option}
 use Rattle.std.specs.declared.option.Option.TheVariants.{Some, None}
-use Rattle.std.specs.Option.{unwrap_or, option_and_then, option_map}
-use Rattle.std.specs.Ordering.{nat_cmp, int_cmp, int_eq, is_eq}
-use Rattle.std.specs.Cmp.{int_ranked}
+use Rattle.std.specs.Option.{option_and_then, option_map}
+use Rattle.std.specs.Ordering.{nat_cmp, int_cmp, is_eq}
 use Rattle.std.specs.Map.{lookup, keys_of}
 use Rattle.std.specs.List.{AllByRecursion}
-use Rattle.std.specs.declared.cmp.Ordering.TheVariants.{Less, Equal, Greater}
+use Rattle.std.specs.declared.cmp.Ordering.TheVariants.{Less}
 use Rattle.std.specs.FinMap as map
-use Rattle.std.specs.FinMap.{nat_cmp-IsAntisymmetric, gets}
+use Rattle.std.specs.FinMap.{gets}
 use Rattle.std.proofs.lemmas.Grind.{common_steps}
 use Rattle.std.specs.BTreeMap as tree
 use Rattle.std.specs.BTreeMap.{BTreeMap}
 use Rattle.std.specs.List.Sorted.{IsStrictlySortedBy}
 use Rattle.std.proofs.lemmas.Map.Keys.{sorted_head, sorted_tail}
 use Rattle.std.proofs.lemmas.Bool.{cases_eq}
-use Rattle.std.proofs.lemmas.Bool.Decides.{Decides-int_eq, Decides-eqb}
+use Rattle.std.proofs.lemmas.Bool.Decides.{Decides-eqb}
 use Rattle.loda_semantics.specs.declared.kinds.Pair.{Pair}
-use Rattle.demand_table.specs.declared.entry.Entry.{Entry}
 use Rattle.demand_table.specs.declared.node.Node.{Node}
 use Rattle.demand_table.specs.declared.node.Folder.{Folder}
 use Rattle.demand_table.specs.declared.range.Range.{Range}
 use Rattle.demand_table.specs.declared.slot.Slot.{Slot}
 use Rattle.demand_table.specs.declared.work.Work.{Work}
-use Rattle.demand_table.specs.Drawn.{CheckedRanges, with_range, node_entry}
-use Rattle.demand_table.specs.Loaded.{Folders, slot_at, slot_of, slot_in, slot_with, slots_of, node_in, node_at, the_pair, checks_of, blank_slot}
-use Rattle.demand_table.specs.Mended.{node_with, node_from, drawing_of}
-use Rattle.demand_table.specs.Written.{node_here, nodes_from}
+use Rattle.demand_table.specs.Drawn.{CheckedRanges, with_range}
+use Rattle.demand_table.specs.Loaded.{Folders, slot_or, slots_of, touched_in, node_in, node_at, checks_of}
+use Rattle.demand_table.specs.Mended.{drawing_of}
 use Rattle.demand_table.specs.Ascending.{Ascends, AllAscend}
-use Rattle.demand_table.specs.Filed.{filed_at, IsFiled, IsWrittenDown}
-use Rattle.demand_table.proofs.Counts.{nil-cases, cons-cases}
-use Rattle.demand_table.proofs.Pairs.{same_parts}
-use Rattle.demand_table.proofs.Loaded.{names_apart}
+use Rattle.demand_table.specs.Filed.{node_of_slot, filed_at, IsFiled, IsWrittenDown}
+use Rattle.demand_table.proofs.Loaded.{in_name, names_apart}
+use Rattle.demand_table.proofs.Writing_down.{found_arg, drawn_back}
 use Rattle.demand_table.proofs.Reached.{get_put_same, get_put_other}
 
--- ---- ascending order
-
-above : (es : List (ℤ × Slot)) (x : ℤ) → AllByRecursion (λ y. int_cmp x y ≡ Less) (keys_of es) → (m : Node) → Contains (nodes_from es) m → x <ℤ m.arg
-above [] x h m at = absurd (nil-cases m at)
-above (e ∷ es) x h m at = by e.1.entry at (above es x h.1 m)
-  where
-    by : (o : Option Entry) → Contains (node_here e.0 e.1 o ++ nodes_from es) m → (Contains (nodes_from es) m → x <ℤ m.arg) → x <ℤ m.arg
-    by None at further = further at
-    by (Some k) at further = elim (cons-cases (node_with (the_pair 0 e.0) e.1 k) (nodes_from es) m at) [
-      | inl same ↦ subst (λ (n : Node). x <ℤ n.arg) same (int_ranked x e.0 Less (sym h.0))
-      | inr rest ↦ further rest
-    ]
-
-rise : (es : List (ℤ × Slot)) → IsStrictlySortedBy int_cmp (keys_of es) → Ascends (nodes_from es)
-rise [] h = tt
-rise (e ∷ es) h = by e.1.entry (rise es (sorted_tail int_cmp e.0 (keys_of es) h))
-  where
-    by : (o : Option Entry) → Ascends (nodes_from es) → Ascends (node_here e.0 e.1 o ++ nodes_from es)
-    by None rest = rest
-    by (Some k) rest = (λ m at. above es e.0 (sorted_head int_cmp e.0 (keys_of es) h) m at, rest)
-
-pub ascend_at : (slots : BTreeMap ℤ Slot) (nodes : List Node) → nodes ≡ nodes_from slots.entries → tree.IsOrdered int_cmp slots → Ascends nodes
-ascend_at slots nodes is ordered = subst Ascends (sym is) (rise slots.entries ordered)
-
 -- ---- one folder
-
-from_arg : (p : Pair) (s : Slot) (o : Option Entry) → node_from (the_pair 0 p.arg) s o ≡ node_from p s o
-from_arg p s None = refl
-from_arg p s (Some e) = refl
-
--- a folder with the nodes of these slots
-abbrev pub IsListed : BTreeMap ℤ Slot → List Node → Type 0
-IsListed slots nodes = (x : ℤ) → node_in nodes x ≡ node_from (the_pair 0 x) (slot_at slots x) (slot_at slots x).entry
-
-pub listed_at : (slots : BTreeMap ℤ Slot) (nodes : List Node) → IsListed slots nodes → (p : Pair) → node_in nodes p.arg ≡ filed_at slots p
-listed_at slots nodes h p = h p.arg ∙ from_arg p (slot_at slots p.arg) (slot_at slots p.arg).entry
 
 abbrev pub range_of : Folder → Range
 range_of f = record { first = f.first; checked = f.checked }
@@ -100,7 +61,7 @@ module _ (old new : Folders) (name : ℕ) (f : Folder) (put : new ≡ map.insert
       by (inr other) = all q g (sym (off_put q other) ∙ is)
 
 module _ (old new : Folders) (name : ℕ) (slots : BTreeMap ℤ Slot) (was : Folder) (nodes : List Node) (there : map.get old name ≡ Some was)
-    (put : new ≡ map.insert old name (record { first = was.first; checked = was.checked; nodes = nodes })) (listed : IsListed slots nodes) (rises : Ascends nodes) where
+    (put : new ≡ map.insert old name (record { first = was.first; checked = was.checked; nodes = nodes })) (listed : (p : Pair) → node_in nodes p.arg ≡ filed_at slots (node_in was.nodes p.arg) p) (rises : Ascends nodes) where
   with_nodes : Folder
   with_nodes = record { first = was.first; checked = was.checked; nodes = nodes }
 
@@ -113,13 +74,25 @@ module _ (old new : Folders) (name : ℕ) (slots : BTreeMap ℤ Slot) (was : Fol
           ∙ sym (ap (option_map range_of) (ap (map.get old) e ∙ there))
       by (inr other) = ap (option_map range_of) (off_put old new name (record { first = was.first; checked = was.checked; nodes = nodes }) put q other)
 
+  node_was : (p : Pair) → p.name ≡ name → node_at old p ≡ node_in was.nodes p.arg
+  node_was p e = ap (option_and_then (λ (g : Folder). node_in g.nodes p.arg)) (ap (map.get old) e ∙ there)
+
   pub filed_one : IsFiled old new name slots
   filed_one = record {
     checks = checks_same;
     others = node_off old new name (record { first = was.first; checked = was.checked; nodes = nodes }) put;
-    here = λ p e has. node_on old new name (record { first = was.first; checked = was.checked; nodes = nodes }) put p e ∙ listed_at slots nodes listed p;
+    here = λ p e has. node_on old new name (record { first = was.first; checked = was.checked; nodes = nodes }) put p e ∙ listed p ∙ ap (λ (o : Option Node). filed_at slots o p) (sym (node_was p e));
     ascend = ascend_put old new name (record { first = was.first; checked = was.checked; nodes = nodes }) put rises;
   }
+
+-- the nodes of a name that has a folder, and of one that has none
+pub has_nodes : (folders : Folders) (name : ℕ) (f : Folder) (nodes : List Node) → Some f ≡ map.get folders name → nodes ≡ f.nodes → (p : Pair) → p.name ≡ name → node_in nodes p.arg ≡ node_at folders p
+has_nodes folders name f nodes is same p e =
+    ap (λ (l : List Node). node_in l p.arg) same ∙ ap (option_and_then (λ (g : Folder). node_in g.nodes p.arg)) (is ∙ ap (map.get folders) (sym e))
+
+pub no_nodes : (folders : Folders) (name : ℕ) (nodes : List Node) → None ≡ map.get folders name → nodes ≡ [] → (p : Pair) → p.name ≡ name → node_in nodes p.arg ≡ node_at folders p
+no_nodes folders name nodes is same p e =
+    ap (λ (l : List Node). node_in l p.arg) same ∙ ap (option_and_then (λ (g : Folder). node_in g.nodes p.arg)) (is ∙ ap (map.get folders) (sym e))
 
 none_has : (o : Option Folder) → o ≡ None → IsSome o → ⊥
 none_has None e h = cc
@@ -140,7 +113,7 @@ Opened = List (ℕ × BTreeMap ℤ Slot)
 
 abbrev pub over : Option (BTreeMap ℤ Slot) → Option Node → Pair → Option Node
 over None o p = o
-over (Some slots) o p = filed_at slots p
+over (Some slots) o p = filed_at slots o p
 
 abbrev pub found_in : Opened → ℕ → Option (BTreeMap ℤ Slot)
 found_in es q = lookup (tree.is_at (nat_cmp q)) es
@@ -198,17 +171,6 @@ writing_more first now new all e es h filed = record {
 
 -- ---- what is written down is what the slots stand for
 
-pub found_arg : (ns : List Node) (n : Node) (x : ℤ) → node_in ns x ≡ Some n → n.arg ≡ x
-found_arg [] n x h = cc
-found_arg (m ∷ ms) n x h = by (int_eq m.arg x) refl h (found_arg ms n x)
-  where
-    some_same : (a b : Node) → Some a ≡ Some b → a ≡ b
-    some_same a b e = cc
-
-    by : (b : Bool) → int_eq m.arg x ≡ b → (if b then Some m else node_in ms x) ≡ Some n → (node_in ms x ≡ Some n → n.arg ≡ x) → n.arg ≡ x
-    by true e f rest = subst (λ (k : Node). k.arg ≡ x) (some_same m n f) ((Decides-int_eq m.arg x).0 e)
-    by false e f rest = rest f
-
 pub node_arg : (folders : Folders) (p : Pair) (n : Node) → node_at folders p ≡ Some n → n.arg ≡ p.arg
 node_arg folders p n h = by (map.get folders p.name) h
   where
@@ -216,18 +178,14 @@ node_arg folders p n h = by (map.get folders p.name) h
     by None e = cc
     by (Some g) e = found_arg g.nodes n p.arg e
 
-drawn_back : (p : Pair) (o : Option Node) → ((n : Node) → o ≡ Some n → n.arg ≡ p.arg) → node_from p (slot_of o) (slot_of o).entry ≡ o
-drawn_back p None h = refl
-drawn_back p (Some n) h = ap Some (λ i. record { arg = sym (h n refl) i; value = n.value; own = n.own; total = n.total; calls = n.calls; callers = n.callers })
-
-over_drawn : (first : Folders) (p : Pair) (o : Option (BTreeMap ℤ Slot)) → over o (node_at first p) p ≡ node_from p (slot_in o first p) (slot_in o first p).entry
+over_drawn : (first : Folders) (p : Pair) (o : Option (BTreeMap ℤ Slot)) → over o (node_at first p) p ≡ node_of_slot p (slot_or (in_name p.arg o) (node_at first p))
 over_drawn first p None = sym (drawn_back p (node_at first p) (node_arg first p))
 over_drawn first p (Some slots) = refl
 
-pub written_down : (first now : Folders) (work : Work) → IsWriting first now work.opened.entries [] → IsWrittenDown first now work
+pub written_down : (first now : Folders) (work : Work) → IsWriting first now work.touched.entries [] → IsWrittenDown first now work
 written_down first now work h = record {
   checks = h.checks;
-  nodes = λ p has. h.nodes p has ∙ over_drawn first p (tree.get nat_cmp work.opened p.name);
+  nodes = λ p has. h.nodes p has ∙ over_drawn first p (tree.get nat_cmp work.touched p.name);
   ascend = h.ascend;
 }
 
@@ -248,8 +206,8 @@ has_folder None h = cc
 has_folder (Some f) h = refl
 
 module _ (first rest next : Folders) (was work : Work) (name : ℕ) (range : Range) (slots : BTreeMap ℤ Slot) (nodes : List Node)
-    (taken : (x : ℤ) → slot_at slots x ≡ slots_of first was (the_pair name x)) (others : (q : Pair) → (q.name ≡ name → ⊥) → slots_of first work q ≡ slots_of first was q)
-    (listed : IsListed slots nodes) (rises : Ascends nodes) (written : IsWrittenDown first rest work)
+    (taken : (p : Pair) → p.name ≡ name → tree.get int_cmp slots p.arg ≡ touched_in was p) (others : (q : Pair) → (q.name ≡ name → ⊥) → touched_in work q ≡ touched_in was q)
+    (listed : (p : Pair) → p.name ≡ name → node_in nodes p.arg ≡ filed_at slots (node_at first p) p) (rises : Ascends nodes) (written : IsWrittenDown first rest work)
     (put : next ≡ map.insert rest name (record { first = range.first; checked = range.checked; nodes = nodes })) where
   pub filed_checks : (q : ℕ) → checks_of next q ≡ with_range (checks_of first) name range q
   filed_checks q = by (cases_eq q name)
@@ -268,12 +226,12 @@ module _ (first rest next : Folders) (was work : Work) (name : ℕ) (range : Ran
       by : (p.name ≡ name) ⊎ (p.name ≡ name → ⊥) → node_at next p ≡ drawing_of (slots_of first was) p
       by (inl e) =
           node_on rest next name (record { first = range.first; checked = range.checked; nodes = nodes }) put p e
-          ∙ listed_at slots nodes listed p
-          ∙ ap (λ (s : Slot). node_from p s s.entry) (taken p.arg ∙ ap (slots_of first was) (sym (same_parts p (the_pair name p.arg) e refl)))
+          ∙ listed p e
+          ∙ ap (λ (o : Option Slot). node_of_slot p (slot_or o (node_at first p))) (taken p e)
       by (inr other) =
           node_off rest next name (record { first = range.first; checked = range.checked; nodes = nodes }) put p other
           ∙ written.nodes p (has_folder (map.get first p.name) (subst (λ (o : Option Range). IsSome o) (range_off (checks_of first) name range p.name other) has))
-          ∙ ap (λ (s : Slot). node_from p s s.entry) (others p other)
+          ∙ ap (λ (o : Option Slot). node_of_slot p (slot_or o (node_at first p))) (others p other)
 
   pub filed_ascend : AllAscend first → AllAscend next
   filed_ascend up = ascend_put rest next name (record { first = range.first; checked = range.checked; nodes = nodes }) put rises (written.ascend up)

@@ -1,5 +1,5 @@
 -- What is gathered are live runs of the store, and with each its callees.
-use Rattle.std.proofs.Common.{ℕ, zero, suc, ◌+◌, ◌-◌, ◌<◌, ◌≤◌, ◌^◌, ◌≡◌, refl, sym, ap, subst, ◌∙◌, arith, ℤ, pos, inl, inr, List, [], ◌∷◌, ◌++◌, Contains}
+use Rattle.std.proofs.Common.{ℕ, suc, ◌+◌, ◌-◌, ◌<◌, ◌≤◌, ◌^◌, ◌≡◌, refl, sym, ap, subst, ◌∙◌, arith, ℤ, pos, inl, inr, List, [], ◌∷◌, ◌++◌, Contains}
 use Rattle.std.specs.Prelude.{◌⊎◌, IsSome}
 use Rattle.std.proofs.lemmas.Bool.{cases_lt}
 use Rattle.std.proofs.lemmas.List.Elements.{Contains-append_right, Contains-append_cases}
@@ -14,7 +14,6 @@ use Rattle.program_store.specs.Store.{Store, published_at, programs_of, checked_
 use Rattle.seq_calls.specs.declared.outcomes.NodeRun.{NodeRun}
 use Rattle.seq_calls.specs.Frames.{steps_below, pair, direct, node_of, nodes_in, nodes_of}
 use Rattle.seq_calls.specs.Demand.{InTrace, ample}
-use Rattle.seq_calls.specs.Values.{outcome}
 use Rattle.seq_calls.specs.Runs.{HasRun, HasValues}
 use Rattle.seq_calls.proofs.Relied.{is_checked}
 use Rattle.seq_calls.proofs.Bounded.{with_steps}

@@ -1,7 +1,6 @@
 -- A search by halving in nodes that ascend.
 use Rattle.std.proofs.Common.{ℕ, zero, suc, ◌+◌, ◌<◌, ◌≤◌, ◌≡◌, ◌⊎◌, inl, inr, refl, sym, ap, subst, ◌∙◌, Bool, true, false, ℤ, ◌<ℤ◌, List, [], ◌∷◌, Contains, length, get_or, if◌then◌else◌, arith}
 use Rattle.std.specs.Ordering.{int_eq}
-use Rattle.std.specs.declared.option.Option.{Option}
 use Rattle.std.specs.declared.option.Option.TheVariants.{Some, None}
 use Rattle.std.proofs.lemmas.List.{get_or_default}
 use Rattle.std.proofs.lemmas.Bool.{cases_lt, cases_eq}
@@ -11,13 +10,13 @@ use Rattle.demand_table.specs.Ascending.{Ascends}
 use Rattle.demand_table.specs.Loaded.{node_in}
 use Rattle.demand_table.proofs.Counts.{nil-cases, cons-cases, cons-here, cons-more}
 
-less_other : (x y : ℤ) → x <ℤ y → x ≡ y → ⊥
+pub less_other : (x y : ℤ) → x <ℤ y → x ≡ y → ⊥
 less_other x y lt e = grind (arith)
 
-less_less : (x y z : ℤ) → x <ℤ y → y <ℤ z → x <ℤ z
+pub less_less : (x y z : ℤ) → x <ℤ y → y <ℤ z → x <ℤ z
 less_less x y z f g = grind (arith)
 
-apart_false : (x y : ℤ) → (x ≡ y → ⊥) → int_eq x y ≡ false
+pub apart_false : (x y : ℤ) → (x ≡ y → ⊥) → int_eq x y ≡ false
 apart_false x y other = by (int_eq x y) refl
   where
     by : (b : Bool) → int_eq x y ≡ b → int_eq x y ≡ false
@@ -39,7 +38,7 @@ found_node (k ∷ ks) up n x at e = elim (cons-cases k ks n at) [
       ∙ found_node ks up.1 n x later e
 ]
 
-none_node : (ns : List Node) (x : ℤ) → ((n : Node) → Contains ns n → n.arg ≡ x → ⊥) → node_in ns x ≡ None
+pub none_node : (ns : List Node) (x : ℤ) → ((n : Node) → Contains ns n → n.arg ≡ x → ⊥) → node_in ns x ≡ None
 none_node [] x h = refl
 none_node (k ∷ ks) x h = ap (λ (b : Bool). if b then Some k else node_in ks x) (apart_false k.arg x (h k (cons-here k ks))) ∙ none_node ks x (λ n at. h n (cons-more k ks n at))
 

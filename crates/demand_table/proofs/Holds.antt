@@ -1,5 +1,5 @@
 -- The folders and the index after a replacement hold the mended table.
-use Rattle.std.proofs.Common.{ℕ, zero, suc, ◌≡◌, ◌⊎◌, inl, inr, refl, sym, ap, subst, ◌∙◌, Bool, true, false, List, [], ◌∷◌, Contains, if◌then◌else◌, ◌==◌}
+use Rattle.std.proofs.Common.{ℕ, ◌≡◌, ◌⊎◌, inl, inr, refl, sym, subst, ◌∙◌, Bool, true, false, List, Contains, if◌then◌else◌, ◌==◌}
 use Rattle.std.specs.Prelude.{IsSome}
 use Rattle.std.specs.declared.option.Option.{Option}
 use Rattle.std.specs.declared.option.Option.TheVariants.{Some, None}
@@ -15,18 +15,16 @@ use Rattle.demand_table.specs.declared.node.Node.{Node}
 use Rattle.demand_table.specs.declared.node.Folder.{Folder}
 use Rattle.demand_table.specs.declared.range.Range.{Range}
 use Rattle.demand_table.specs.Counts.{IsCount}
-use Rattle.demand_table.specs.Drawn.{CheckedRanges, Runs, IsChecked, RunCalls, ReachedAfter, IsReached, IsClosed, Drawing, node_entry, IsDrawn, with_range}
+use Rattle.demand_table.specs.Drawn.{CheckedRanges, Runs, IsClosed, Drawing, node_entry, IsDrawn, with_range}
 use Rattle.demand_table.specs.Loaded.{Folders, node_in, node_at, checks_of}
 use Rattle.demand_table.specs.Mended.{run_of, run_at, either, apart_from, mended, runs_of, Fits}
-use Rattle.demand_table.specs.Ascending.{AllAscend}
 use Rattle.demand_table.specs.Upward.{names_filed_under}
 use Rattle.demand_table.specs.Reaching.{Index, Grows, HasRuns}
 use Rattle.demand_table.specs.Held.{Covers, IsHeld}
-use Rattle.demand_table.proofs.Counts.{nil-cases}
 use Rattle.demand_table.proofs.Drawings.{live_stands}
 use Rattle.demand_table.proofs.Agreeing.{own_drawn}
 use Rattle.demand_table.proofs.Whole.{frame_at, map_some}
-use Rattle.demand_table.proofs.Filing.{range_here, range_off, range_of, has_folder}
+use Rattle.demand_table.proofs.Filing.{range_off, range_of, has_folder}
 
 no_range : (o : Option Range) → o ≡ None → IsSome o → ⊥
 no_range None e h = cc

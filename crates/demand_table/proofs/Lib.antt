@@ -6,7 +6,7 @@ pub mod Pairs
 pub mod Counted
 -- Where nothing is left that nobody calls and no check needs, the runs that stand are the live ones.
 pub mod Dead
--- What a store or a load of one slot does to the others.
+-- What a change of one slot does to the others.
 pub mod Loaded
 -- One caller fewer for each pair on a list.
 pub mod Lowering
@@ -26,8 +26,10 @@ pub mod Whole
 pub mod Forgotten
 -- Pairs of frames and nodes are listed.
 pub mod Listed
--- What the nodes that slots are written down as have at an argument.
+-- What the nodes that slots are written down as have at an argument, and that they ascend.
 pub mod Writing_down
+-- Nodes are merged with those of slots, step by step.
+pub mod Merge_steps
 -- A table of some runs is a table of all runs of which they are a closed part.
 pub mod Agreeing
 -- A list of names that grows by the names that stand under its own.

@@ -1,17 +1,15 @@
 -- One caller fewer for each pair on a list.
-use Rattle.std.proofs.Common.{ℕ, suc, ◌+◌, ◌<◌, ◌≡◌, ◌⊎◌, inl, inr, refl, sym, ap, subst, ◌∙◌, Bool, true, false, List, [], ◌∷◌, ◌++◌, Contains, length, take, get_or, cond, arith}
+use Rattle.std.proofs.Common.{ℕ, suc, ◌+◌, ◌<◌, ◌≡◌, ◌⊎◌, inl, inr, refl, sym, ap, subst, ◌∙◌, Bool, true, false, List, [], ◌∷◌, ◌++◌, Contains, length, take, get_or, arith}
 use Rattle.std.specs.Prelude.{not}
 use Rattle.std.specs.List.{list_any}
 use Rattle.std.specs.Ordering.{is_eq}
 use Rattle.std.specs.BTreeSet as sorted
 use Rattle.std.specs.BTreeSet.{BTreeSet}
-use Rattle.std.proofs.lemmas.List.{take_more, get_or_read}
+use Rattle.std.proofs.lemmas.List.{take_more}
 use Rattle.std.proofs.lemmas.List.Elements.{Contains-append_left, Contains-push, Contains-push_cases}
 use Rattle.loda_semantics.specs.declared.kinds.Pair.{Pair}
 use Rattle.demand_table.specs.declared.slot.Slot.{Slot}
-use Rattle.demand_table.specs.declared.entry.Entry.{Entry}
-use Rattle.std.specs.declared.option.Option.{Option}
-use Rattle.demand_table.specs.Work.{Slots, IsSet, IsLowered, AreLowered}
+use Rattle.demand_table.specs.Work.{Slots, IsLowered, AreLowered}
 use Rattle.demand_table.specs.Loaded.{Key, key_of, key_cmp}
 use Rattle.demand_table.proofs.Counts.{nil-cases}
 use Rattle.demand_table.proofs.Pairs.{pair_cases}

@@ -1,20 +1,20 @@
 -- An accepted program may replace, and its runs are the frames.
-use Rattle.std.proofs.Common.{ℕ, ◌≤◌, ◌≡◌, refl, sym, ap, subst, ◌∙◌, arith, ℤ, pos, List, Contains}
+use Rattle.std.proofs.Common.{ℕ, ◌≡◌, refl, sym, ap, subst, ◌∙◌, ℤ, pos, List, Contains}
 use Rattle.std.specs.Prelude.{IsSome}
 use Rattle.std.specs.declared.option.Option.TheVariants.{Some}
 use Rattle.loda_syntax.specs.Programs.{Text}
-use Rattle.loda_semantics.specs.Exec.{Outcome, value, fault, out, Library, run_name}
+use Rattle.loda_semantics.specs.Exec.{Outcome, value, Library, run_name}
 use Rattle.program_store.specs.Store.{Store, programs_of, put_in, after}
 use Rattle.program_store.specs.Graph.{NoCycle}
 use Rattle.seq_calls.specs.declared.outcomes.NodeRun.{NodeRun}
-use Rattle.seq_calls.specs.Frames.{steps_of, pair, nodes_of}
+use Rattle.seq_calls.specs.Frames.{pair, nodes_of}
 use Rattle.seq_calls.specs.Demand.{ample}
 use Rattle.seq_calls.specs.Values.{outcome, KeepsValue}
 use Rattle.seq_calls.proofs.Values.{gives_value}
 use Rattle.program_store.proofs.Puts.{next_programs}
 use Rattle.demand_table.specs.Replaceable.{AreRuns, IsReplaceable}
 use Rattle.demand_table.specs.declared.entry.Entry.{Entry}
-use Rattle.demand_table.specs.Table.{runs_in_library, steps_at, AreFramesOf, IsWanted, MayReplace}
+use Rattle.demand_table.specs.Table.{runs_in_library, AreFramesOf, IsWanted, MayReplace}
 use Rattle.demand_table.proofs.Counted.{is_some}
 use Rattle.demand_table.proofs.Ran.{entry_with}
 

@@ -3,12 +3,11 @@ use Rattle.std.proofs.Common.{ℕ, ◌≡◌, sym, ap, subst, ◌∙◌, List}
 use Rattle.loda_syntax.specs.Programs.{Text}
 use Rattle.program_store.specs.Store.{Store, programs_of, put_in}
 use Rattle.seq_calls.specs.declared.outcomes.NodeRun.{NodeRun}
-use Rattle.demand_table.specs.declared.range.Range.{Range}
 use Rattle.demand_table.specs.Drawn.{CheckedRanges, with_range, Drawing, IsDrawn}
 use Rattle.demand_table.specs.Loaded.{Folders, node_at, checks_of}
 use Rattle.demand_table.specs.Mended.{mended, Fits, runs_of}
 use Rattle.demand_table.specs.Replaceable.{AreRuns, IsReplaceable}
-use Rattle.demand_table.specs.Table.{runs_in_library, from_zero, checks_in_store, IsDemandTable, MayReplace, AreFramesOf, IsWanted}
+use Rattle.demand_table.specs.Table.{from_zero, checks_in_store, IsDemandTable, MayReplace, AreFramesOf, IsWanted}
 use Rattle.demand_table.specs.Tabled.{IsTabled}
 use Rattle.demand_table.proofs.Bridge.{gives_fits, gives_table, checks_follow}
 use Rattle.demand_table.proofs.May.{may_replace, frames_of}

@@ -12,11 +12,11 @@ use Rattle.seq_calls.specs.declared.outcomes.NodeRun.{NodeRun}
 use Rattle.demand_table.specs.declared.entry.Entry.{Entry}
 use Rattle.demand_table.specs.declared.slot.Slot.{Slot}
 use Rattle.demand_table.specs.Counts.{IsCount}
-use Rattle.demand_table.specs.Work.{Slots, runs_in, IsSet, IsCounted, IsPut, AreRaised}
+use Rattle.demand_table.specs.Work.{Slots, IsCounted, IsPut, AreRaised}
 use Rattle.demand_table.specs.Settling.{IsUnsettled}
 use Rattle.demand_table.specs.Mended.{run_of, run_at, either}
-use Rattle.demand_table.specs.Mending.{placed, IsPlaced, IsMending}
-use Rattle.demand_table.proofs.Counts.{count_more, count_same}
+use Rattle.demand_table.specs.Mending.{IsPlaced, IsMending}
+use Rattle.demand_table.proofs.Counts.{count_more}
 use Rattle.demand_table.proofs.Counted.{none_is_some, is_some, put-counted}
 use Rattle.demand_table.proofs.Pairs.{pair_cases, has_cases, same_parts}
 

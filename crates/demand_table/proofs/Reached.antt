@@ -1,8 +1,8 @@
 -- Names that join the lists under the names that they call.
-use Rattle.std.proofs.Common.{ℕ, ◌+◌, ◌<◌, ◌≡◌, ◌≢◌, ◌⊎◌, inl, inr, refl, sym, ap, subst, ◌∙◌, Bool, true, false, List, [], ◌∷◌, ◌++◌, Contains, take, length, arith}
+use Rattle.std.proofs.Common.{ℕ, ◌≡◌, ◌⊎◌, inl, inr, refl, sym, ap, subst, ◌∙◌, Bool, true, false, List, [], ◌∷◌, ◌++◌, Contains, arith}
 use Rattle.std.specs.Prelude.{not}
 use Rattle.std.specs.declared.option.Option.{Option}
-use Rattle.std.specs.declared.option.Option.TheVariants.{Some, None}
+use Rattle.std.specs.declared.option.Option.TheVariants.{Some}
 use Rattle.std.specs.declared.cmp.Ordering.{Ordering}
 use Rattle.std.specs.declared.cmp.Ordering.TheVariants.{Less, Equal, Greater}
 use Rattle.std.specs.Option.{option_map_or}
@@ -21,7 +21,6 @@ use Rattle.seq_calls.specs.declared.outcomes.NodeRun.{NodeRun}
 use Rattle.demand_table.specs.declared.names.Names.{Names}
 use Rattle.demand_table.specs.Upward.{names_filed_under}
 use Rattle.demand_table.specs.Reaching.{Index, Grows, HasCalls, HasRuns, IsMetCalls, call_cmp}
-use Rattle.demand_table.proofs.Counts.{nil-cases}
 
 pub get_put_same : {T : Type 0} (m : map.FinMap nat_cmp T) (n : ℕ) (v : T) → map.get (map.insert m n v) n ≡ Some v
 get_put_same m n v = grind (arith, gets, common_steps)

@@ -1,5 +1,5 @@
 -- What the look-ups of tables tell of the store.
-use Rattle.std.proofs.Common.{ℕ, Bor, zero, suc, ◌<◌, ◌≡◌, sym, ap, subst, ◌∙◌, arith, ℤ, ◌<ℤ◌, inl, inr, List, [], ◌∷◌, Contains}
+use Rattle.std.proofs.Common.{ℕ, Bor, zero, suc, ◌≡◌, sym, ap, subst, ◌∙◌, arith, ℤ, ◌<ℤ◌, inl, inr, List, [], ◌∷◌, Contains}
 use Rattle.std.specs.Prelude.{slice_get, IfOk, IfSome, IfNone}
 use Rattle.std.specs.Option.{option_copied}
 use Rattle.std.specs.declared.option.Option.{Option}
@@ -8,14 +8,14 @@ use Rattle.std.specs.declared.result.Result.TheVariants.{Ok, Err}
 use Rattle.std.specs.declared.option.Option.TheVariants.{Some, None}
 use Rattle.loda_semantics.specs.declared.kinds.Pair.{Pair}
 use Rattle.loda_semantics.specs.Exec.{Outcome, value, Calls as CallRecords}
-use Rattle.program_store.specs.Store.{Store, IsPublished, published_at, programs_of}
+use Rattle.program_store.specs.Store.{Store, published_at, programs_of}
 use Rattle.seq_calls.specs.Frames.{pair}
 use Rattle.seq_calls.specs.Demand.{InDem, IsReliedOn}
 use Rattle.seq_calls.specs.Runs.{HasValues}
 use Rattle.seq_calls.proofs.Relied.{is_checked}
 use Rattle.demand_table.specs.declared.node.Node.{Node}
 use Rattle.demand_table.specs.Counts.{IsCount}
-use Rattle.demand_table.specs.Drawn.{RunCalls, IsReached, Drawing, NodeCalls, node_entry}
+use Rattle.demand_table.specs.Drawn.{IsReached, Drawing, NodeCalls, node_entry}
 use Rattle.demand_table.specs.Demanded.{Rises, AreCalled}
 use Rattle.demand_table.specs.Nodes.{IsLive, IsNodeAt, IsAscending, ListsDem, CallsPair}
 use Rattle.demand_table.specs.Table.{runs_in_library, steps_at, checks_in_store, IsDemandTable, IsLiveIn}

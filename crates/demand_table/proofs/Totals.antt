@@ -1,15 +1,15 @@
 -- Totals are settled one after the other, down the calls.
-use Rattle.std.proofs.Common.{ℕ, suc, ◌+◌, ◌<◌, ◌≤◌, ◌≡◌, ◌⊎◌, inl, inr, refl, sym, ap, subst, ◌∙◌, List, [], ◌∷◌, ◌++◌, map, Contains, length, arith}
+use Rattle.std.proofs.Common.{ℕ, suc, ◌<◌, ◌≤◌, ◌≡◌, ◌⊎◌, inl, inr, refl, sym, ap, subst, ◌∙◌, List, [], ◌∷◌, ◌++◌, Contains, length, arith}
 use Rattle.std.specs.Prelude.{IsSome}
 use Rattle.std.specs.declared.option.Option.{Option}
-use Rattle.std.specs.declared.option.Option.TheVariants.{Some, None}
+use Rattle.std.specs.declared.option.Option.TheVariants.{Some}
 use Rattle.std.proofs.lemmas.List.{map-append, length-map}
 use Rattle.std.proofs.lemmas.List.Elements.{Contains-append_left, Contains-push, Contains-push_cases}
 use Rattle.loda_semantics.specs.declared.kinds.Pair.{Pair}
 use Rattle.demand_table.specs.declared.entry.Entry.{Entry}
 use Rattle.demand_table.specs.declared.slot.Slot.{Slot}
 use Rattle.demand_table.specs.declared.frame.Frame.{Frame}
-use Rattle.demand_table.specs.Counts.{AllDiffer, IsCount}
+use Rattle.demand_table.specs.Counts.{AllDiffer}
 use Rattle.demand_table.specs.Drawn.{Runs, RunCalls, AreTotals}
 use Rattle.demand_table.specs.Work.{Slots, runs_in, IsSet, with_total}
 use Rattle.demand_table.specs.Settling.{IsUnsettled, CanSettle, Settles, IsSettling, Falls, pairs_of, IsStacked}

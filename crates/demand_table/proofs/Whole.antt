@@ -1,5 +1,5 @@
 -- The stages of mending, one after the other: from the old table to slots that can be dropped from, settled and drawn.
-use Rattle.std.proofs.Common.{ℕ, zero, suc, ◌+◌, ◌<◌, ◌≡◌, ◌⊎◌, inl, inr, refl, sym, ap, subst, ◌∙◌, Bool, true, false, ◌==◌, List, [], ◌∷◌, Contains, if◌then◌else◌, arith}
+use Rattle.std.proofs.Common.{ℕ, zero, suc, ◌≡◌, ◌⊎◌, inl, inr, refl, sym, ap, subst, ◌∙◌, Bool, true, false, ◌==◌, List, [], ◌∷◌, Contains, if◌then◌else◌}
 use Rattle.std.specs.Prelude.{IsSome}
 use Rattle.std.specs.Option.{option_map}
 use Rattle.std.specs.declared.option.Option.{Option}
@@ -13,22 +13,23 @@ use Rattle.demand_table.specs.declared.entry.Entry.{Entry}
 use Rattle.demand_table.specs.declared.node.Node.{Node}
 use Rattle.demand_table.specs.declared.slot.Slot.{Slot}
 use Rattle.demand_table.specs.Counts.{IsCount}
-use Rattle.demand_table.specs.Drawn.{CheckedRanges, Runs, with_range, IsChecked, RunCalls, ReachedAfter, IsReached, IsClosed, AreTotals, Drawing, node_entry, NodeCalls, IsDrawn}
+use Rattle.demand_table.specs.Drawn.{CheckedRanges, Runs, with_range, IsChecked, RunCalls, ReachedAfter, IsReached, IsClosed, Drawing, node_entry, NodeCalls, IsDrawn}
 use Rattle.std.proofs.Common.{ℤ}
 use Rattle.std.specs.Ordering.{nat_cmp, is_eq}
 use Rattle.std.specs.Map.{lookup}
 use Rattle.std.specs.BTreeMap as tree
 use Rattle.std.specs.BTreeMap.{BTreeMap}
 use Rattle.demand_table.specs.declared.work.Work.{Work}
-use Rattle.demand_table.specs.Loaded.{blank_slot, slot_with, slot_of, slot_in, slots_of, node_at, Folders}
+use Rattle.demand_table.proofs.Loaded.{in_name}
+use Rattle.demand_table.specs.Loaded.{slot_of, slot_or, slots_of, node_at, Folders}
 use Rattle.demand_table.specs.Work.{Slots, runs_in, IsCounted, IsDropping, IsDropped, KeepsTotals}
 use Rattle.demand_table.specs.Settling.{IsUnsettled, CanSettle}
 use Rattle.demand_table.specs.Mended.{run_of, run_at, either, apart_from, mended, runs_of, Fits, node_from, drawing_of}
 use Rattle.demand_table.specs.Mending.{IsMending, IsCleared, IsForgotten, IsForgetting}
-use Rattle.demand_table.proofs.Counts.{nil-cases, cons-cases, cons-here, cons-more, count_same, none_of_zero}
-use Rattle.demand_table.proofs.Counted.{none_is_some, some_is, is_some, same_entry}
+use Rattle.demand_table.proofs.Counts.{nil-cases, cons-here, cons-more, count_same, none_of_zero}
+use Rattle.demand_table.proofs.Counted.{none_is_some, some_is, is_some}
 use Rattle.demand_table.proofs.Dead.{live_call}
-use Rattle.demand_table.proofs.Drawings.{can_drop, total_stays, live_stands}
+use Rattle.demand_table.proofs.Drawings.{can_drop, total_stays}
 use Rattle.demand_table.proofs.Placing.{same_pair, same_of}
 
 -- ---- options
@@ -294,10 +295,11 @@ module _ (C : CheckedRanges) (D : Drawing) (drawn : IsDrawn C (runs_of D) D) (w0
 nothing_at : {X : Type 0} (m : BTreeMap ℕ X) (n : ℕ) → m.entries ≡ [] → tree.get nat_cmp m n ≡ None
 nothing_at {X = X} m n e = ap (λ (es : List (ℕ × X)). lookup (λ (k : ℕ). is_eq (nat_cmp n k)) es) e
 
--- slots of which none was opened are those of the table
-pub slots_first : (w : Work) (known folders : Folders) → w.opened.entries ≡ [] → known ≡ folders → (p : Pair) → slots_of known w p ≡ slot_of (node_at folders p)
+-- slots of which none was touched are those of the table
+pub slots_first : (w : Work) (known folders : Folders) → w.touched.entries ≡ [] → known ≡ folders → (p : Pair) → slots_of known w p ≡ slot_of (node_at folders p)
 slots_first w known folders none same p =
-    ap (λ (s : Option (BTreeMap ℤ Slot)). slot_in s known p) (nothing_at w.opened p.name none) ∙ ap (λ (f : Folders). slot_of (node_at f p)) same
+    ap (λ (o : Option (BTreeMap ℤ Slot)). slot_or (in_name p.arg o) (node_at known p)) (nothing_at w.touched p.name none)
+    ∙ ap (λ (f : Folders). slot_of (node_at f p)) same
 
 pub many_first : (D : Drawing) (w : Slots) (many : ℕ) → ((p : Pair) → w p ≡ slot_of (D p)) → IsCount (λ p. IsSome (D p)) many → IsCount (λ p. IsSome (w p).entry) many
 many_first D w many fresh count =

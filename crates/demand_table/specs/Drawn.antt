@@ -1,7 +1,7 @@
 -- What a demand table holds: the live pairs, what their runs come to, their totals and their callers.
-use Rattle.std.specs.Prelude.{ℕ, zero, suc, ◌+◌, ◌<◌, ◌^◌, ◌≡◌, ◌↔◌, ℤ, pos, ◌≤ℤ◌, ◌<ℤ◌, ◌+ℤ◌, List, [], ◌∷◌, Contains, IsSome, sum_by, if◌then◌else◌, ◌==◌}
+use Rattle.std.specs.Prelude.{ℕ, zero, suc, ◌+◌, ◌<◌, ◌^◌, ◌≡◌, ◌↔◌, pos, ◌≤ℤ◌, ◌<ℤ◌, ◌+ℤ◌, Contains, IsSome, sum_by, if◌then◌else◌, ◌==◌}
 use Rattle.std.specs.declared.option.Option.{Option}
-use Rattle.std.specs.declared.option.Option.TheVariants.{Some, None}
+use Rattle.std.specs.declared.option.Option.TheVariants.{Some}
 use Rattle.std.specs.Option.{option_map_or}
 use Rattle.loda_semantics.specs.declared.kinds.Pair.{Pair}
 use Rattle.demand_table.specs.declared.range.Range.{Range}

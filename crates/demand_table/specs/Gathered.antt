@@ -1,4 +1,4 @@
--- The runs of a store's checked arguments, while they are put into slots.
+-- The runs of a store's checked arguments, while they are put into slots. Only clauses of private functions use what stands here.
 use Rattle.std.specs.Prelude.{ℕ, ◌<◌, ◌≤◌, ◌≡◌, ◌⊎◌, pos, List, [], ◌∷◌, ◌++◌, Contains, IsSome}
 use Rattle.std.specs.declared.option.Option.TheVariants.{Some, None}
 use Rattle.loda_semantics.specs.declared.kinds.Pair.{Pair}

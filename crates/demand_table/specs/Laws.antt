@@ -1,4 +1,4 @@
--- What is drawn is one thing.
+-- What is drawn is one thing. Only clauses of private functions use what stands here.
 use Rattle.std.specs.Prelude.{◌≡◌, IsSome}
 use Rattle.std.specs.declared.option.Option.TheVariants.{Some}
 use Rattle.loda_semantics.specs.declared.kinds.Pair.{Pair}

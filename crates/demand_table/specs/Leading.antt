@@ -1,4 +1,4 @@
--- Which pairs are reached from a pair by calls of nodes.
+-- Which pairs are reached from a pair by calls of nodes. Only clauses of private functions use what stands here.
 use Rattle.std.specs.Prelude.{ℕ, zero, suc, ◌<◌, ◌≡◌, pos, true, List, [], ◌++◌, Contains}
 use Rattle.std.specs.declared.option.Option.{Option}
 use Rattle.std.specs.declared.option.Option.TheVariants.{Some, None}

@@ -1,5 +1,5 @@
 -- The table of a store, and what a replacement has to meet.
-use Rattle.std.specs.Prelude.{ℕ, ◌-◌, ◌<◌, ◌≤◌, ◌≡◌, ◌⊎◌, ◌↔◌, ℤ, pos, List, Contains, IsSome, IfSome}
+use Rattle.std.specs.Prelude.{ℕ, ◌-◌, ◌<◌, ◌≤◌, ◌≡◌, ◌⊎◌, ℤ, pos, List, Contains, IsSome}
 use Rattle.std.specs.declared.option.Option.{Option}
 use Rattle.std.specs.declared.option.Option.TheVariants.{Some, None}
 use Rattle.std.specs.Option.{option_map}
@@ -15,8 +15,7 @@ use Rattle.seq_calls.specs.Frames.{steps_of, steps_below, direct, nodes_of}
 use Rattle.seq_calls.specs.Demand.{ample, InDem}
 use Rattle.demand_table.specs.declared.range.Range.{Range}
 use Rattle.demand_table.specs.declared.entry.Entry.{Entry}
-use Rattle.demand_table.specs.Drawn.{CheckedRanges, Runs, RunCalls, IsReached, AreTotals, Drawing, IsDrawn, with_range}
-use Rattle.demand_table.specs.Mended.{run_of, runs_of, mended, Fits}
+use Rattle.demand_table.specs.Drawn.{CheckedRanges, Runs, Drawing, IsDrawn}
 
 -- ---- the table of a store
 

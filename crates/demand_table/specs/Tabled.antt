@@ -1,4 +1,4 @@
--- What tables keep of a store: the programs are those of a store, and the folders hold the table of it.
+-- What tables keep of a store: the programs are those of a store, and the folders hold the table of it. Only clauses of private functions use what stands here.
 use Rattle.std.specs.Prelude.{ℕ, ◌≡◌}
 use Rattle.program_store.specs.Store.{Store, IsStore}
 use Rattle.demand_table.specs.Loaded.{Folders, node_at, checks_of}

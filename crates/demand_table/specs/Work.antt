@@ -1,4 +1,4 @@
--- Runs that are put in and taken out, with the numbers of their callers.
+-- Runs that are put in and taken out, with the numbers of their callers. Only clauses of private functions use what stands here.
 use Rattle.std.specs.Prelude.{ℕ, ◌≡◌, ◌⊎◌, List, Contains, IsSome, suc}
 use Rattle.std.specs.declared.option.Option.TheVariants.{Some, None}
 use Rattle.loda_semantics.specs.declared.kinds.Pair.{Pair}

@@ -36,7 +36,7 @@ fn nothing(alloc: Global, store: &Store, known: &Known<'_>) -> Result<Gathered, 
     ensures { IfOk result (IsGathered store.now known.now.pages.now) }
 {
     let work = Work {
-        opened: BTreeMap::new(alloc),
+        touched: BTreeMap::new(alloc),
     };
     let callers = Pages::empty(alloc)?;
     Ok(Gathered {

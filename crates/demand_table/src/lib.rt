@@ -20,6 +20,7 @@ mod laws;
 mod leading;
 mod making;
 mod mending;
+mod merging;
 mod names;
 mod node;
 mod raising;

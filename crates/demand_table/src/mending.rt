@@ -14,7 +14,7 @@ use crate::holding::Known;
 use crate::known;
 use crate::raising::raise_all;
 use crate::slot::Slot;
-use crate::slots::{load, open, store};
+use crate::slots::{load, store};
 use crate::standing::stands;
 use crate::work::Work;
 use loda_semantics::Pair;
@@ -57,9 +57,7 @@ pub fn clear(
     ensures { IfOk result (λ left. IsCleared (slots_of known.now.pages.now work.old) (slots_of known.now.pages.now work.new) name pending.old.items pending.new.items left) }
 {
     let mut left = many;
-    let found = known::folder(known, name);
-    open(alloc, known, work, name)?;
-    if let Some(folder) = found {
+    if let Some(folder) = known::folder(known, name) {
         for node in folder.nodes.list() {
             let pair = Pair {
                 name,

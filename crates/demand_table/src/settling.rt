@@ -14,7 +14,7 @@ use crate::frame::Frame;
 use crate::holding::Known;
 use crate::known;
 use crate::slot::Slot;
-use crate::slots::{load, store};
+use crate::slots::{load, store, touched};
 use crate::step::Step;
 use crate::work::Work;
 use checked_numbers::Num;
@@ -25,11 +25,8 @@ use std::alloc::{AllocError, Global};
 fn total(known: &Known<'_>, work: &Work, pair: &Pair) -> Option<u64>
     ensures { result ≡ (slots_of known.now.pages.now work.now pair.now).total }
 {
-    match work.opened.get(&pair.name) {
-        Some(slots) => match slots.get(&pair.arg) {
-            Some(slot) => slot.total,
-            None => None,
-        },
+    match touched(work, pair) {
+        Some(slot) => slot.total,
         None => match known::node(known, pair) {
             Some(node) => Some(node.total),
             None => None,
@@ -42,12 +39,9 @@ fn run<'w>(known: &Known<'_>, work: &'w Work, pair: &Pair) -> &'w Entry
     requires { IsUnsettled (slots_of known.now.pages.now work.now) pair.now }
     ensures { (slots_of known.now.pages.now work.now pair.now).entry ≡ Some result.now }
 {
-    match work.opened.get(&pair.name) {
-        Some(slots) => match slots.get(&pair.arg) {
-            Some(slot) => match &slot.entry {
-                Some(entry) => entry,
-                None => unreachable!(),
-            },
+    match touched(work, pair) {
+        Some(slot) => match &slot.entry {
+            Some(entry) => entry,
             None => unreachable!(),
         },
         None => unreachable!(),

@@ -1,9 +1,10 @@
 //! Reading and writing slots.
 
-ghost use Rattle.std.specs.Prelude.{◌≡◌, ◌<◌, ℕ, ℤ, suc, IfOk, OnOk};
-ghost use Rattle.std.specs.declared.option.Option.TheVariants.{Some, None};
+ghost use Rattle.std.specs.Prelude.{◌≡◌, ◌<◌, ◌∷◌, [], IfOk, OnOk};
+ghost use Rattle.std.specs.Option.{option_copied};
+ghost use Rattle.std.specs.declared.option.Option.TheVariants.{Some};
 ghost use Rattle.loda_semantics.specs.declared.kinds.Pair.{Pair};
-ghost use Rattle.demand_table.specs.Loaded.{slots_of, slot_at, slot_of, node_at, the_pair};
+ghost use Rattle.demand_table.specs.Loaded.{slots_of, touched_in, slot_of, node_at};
 ghost use Rattle.demand_table.specs.Work.{IsSet};
 
 use crate::holding::Known;
@@ -15,60 +16,36 @@ use loda_semantics::Pair;
 use std::alloc::{AllocError, Global};
 use std::collections::BTreeMap;
 
-// The slots of a name in the old table.
-fn old_slots(alloc: Global, known: &Known<'_>, name: u32) -> Result<BTreeMap<Num, Slot>, AllocError>
-    ensures { IfOk result (λ slots. (x : ℤ) → slot_at slots x ≡ slot_of (node_at known.now.pages.now (the_pair name x))) }
+/// The slot of a pair, where it was touched.
+pub fn touched<'w>(work: &'w Work, pair: &Pair) -> Option<&'w Slot>
+    ensures { option_copied result ≡ touched_in work.now pair.now }
 {
-    let mut slots = BTreeMap::new(alloc);
-    if let Some(folder) = known::folder(known, name) {
-        for node in folder.nodes.list() {
-            if slots.contains_key(&node.arg) {
-                continue;
-            }
-            let slot = known::slot(alloc, node)?;
-            slots.insert(node.arg, slot)?;
-        }
-    }
-    Ok(slots)
+    work.touched.get(&pair.name)?.get(&pair.arg)
 }
 
-/// Takes the slots of a name, which have to be put back.
-pub fn take_name(
-    alloc: Global,
-    known: &Known<'_>,
-    work: &mut Work,
-    name: u32,
-) -> Result<BTreeMap<Num, Slot>, AllocError>
-    ensures slots { IfOk result (λ slots. (x : ℤ) → slot_at slots x ≡ slots_of known.now.pages.now work.old (the_pair name x)) }
-    ensures others { OnOk result ((q : Pair) → (q.name ≡ name → ⊥) → slots_of known.now.pages.now work.new q ≡ slots_of known.now.pages.now work.old q) }
+// Takes the slot of a pair out, where it was touched.
+fn take_touched(work: &mut Work, pair: &Pair) -> Option<Slot>
+    ensures taken { result ≡ touched_in work.old pair.now }
+    ensures others { (q : Pair) → (q ≡ pair.now → ⊥) → touched_in work.new q ≡ touched_in work.old q }
 {
-    match work.opened.remove(&name) {
-        Some(slots) => Ok(slots),
-        None => old_slots(alloc, known, name),
+    match work.touched.get_mut(&pair.name) {
+        Some(slots) => slots.remove(&pair.arg),
+        None => None,
     }
 }
 
-// Puts the slots of a name back.
-fn put_name(
-    known: &Known<'_>,
-    work: &mut Work,
-    name: u32,
-    slots: BTreeMap<Num, Slot>,
-) -> Result<(), AllocError>
-    ensures slots { OnOk result ((x : ℤ) → slots_of known.now.pages.now work.new (the_pair name x) ≡ slot_at slots x) }
-    ensures others { OnOk result ((q : Pair) → (q.name ≡ name → ⊥) → slots_of known.now.pages.now work.new q ≡ slots_of known.now.pages.now work.old q) }
+// The slot of a pair as the old table has it.
+fn old_slot(alloc: Global, known: &Known<'_>, pair: &Pair) -> Result<Slot, AllocError>
+    ensures { IfOk result (λ slot. slot ≡ slot_of (node_at known.now.pages.now pair.now)) }
 {
-    work.opened.insert(name, slots)?;
-    Ok(())
-}
-
-/// Opens a name: its slots are there to be written.
-pub fn open(alloc: Global, known: &Known<'_>, work: &mut Work, name: u32) -> Result<(), AllocError>
-    ensures { OnOk result ((q : Pair) → slots_of known.now.pages.now work.new q ≡ slots_of known.now.pages.now work.old q) }
-{
-    let slots = take_name(alloc, known, work, name)?;
-    put_name(known, work, name, slots)?;
-    Ok(())
+    match known::node(known, pair) {
+        Some(node) => known::slot(alloc, node),
+        None => Ok(Slot {
+            callers: 0,
+            entry: None,
+            total: None,
+        }),
+    }
 }
 
 /// The slot of a pair, which has to be stored again.
@@ -81,17 +58,19 @@ pub fn load(
     ensures slot { IfOk result (λ slot. slot ≡ slots_of known.now.pages.now work.old pair.now) }
     ensures others { OnOk result ((q : Pair) → (q ≡ pair.now → ⊥) → slots_of known.now.pages.now work.new q ≡ slots_of known.now.pages.now work.old q) }
 {
-    let mut slots = take_name(alloc, known, work, pair.name)?;
-    let slot = match slots.remove(&pair.arg) {
-        Some(slot) => slot,
-        None => Slot {
-            callers: 0,
-            entry: None,
-            total: None,
-        },
-    };
-    put_name(known, work, pair.name, slots)?;
-    Ok(slot)
+    match take_touched(work, pair) {
+        Some(slot) => Ok(slot),
+        None => old_slot(alloc, known, pair),
+    }
+}
+
+// The slots of a name of which this one was touched.
+fn one_slot(alloc: Global, arg: Num, slot: Slot) -> Result<BTreeMap<Num, Slot>, AllocError>
+    ensures { IfOk result (λ slots. slots.entries ≡ (arg, slot) ∷ []) }
+{
+    let mut slots = BTreeMap::new(alloc);
+    slots.insert(arg, slot)?;
+    Ok(slots)
 }
 
 /// Stores the slot of a pair.
@@ -104,8 +83,11 @@ pub fn store(
 ) -> Result<(), AllocError>
     ensures { OnOk result (IsSet (slots_of known.now.pages.now work.old) (slots_of known.now.pages.now work.new) pair.now slot) }
 {
-    let mut slots = take_name(alloc, known, work, pair.name)?;
-    slots.insert(pair.arg, slot)?;
-    put_name(known, work, pair.name, slots)?;
+    if let Some(slots) = work.touched.get_mut(&pair.name) {
+        slots.insert(pair.arg, slot)?;
+        return Ok(());
+    }
+    let slots = one_slot(alloc, pair.arg, slot)?;
+    work.touched.insert(pair.name, slots)?;
     Ok(())
 }

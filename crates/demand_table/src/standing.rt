@@ -6,6 +6,7 @@ ghost use Rattle.demand_table.specs.Loaded.{slots_of};
 
 use crate::holding::Known;
 use crate::known;
+use crate::slots::touched;
 use crate::work::Work;
 use loda_semantics::Pair;
 
@@ -13,11 +14,8 @@ use loda_semantics::Pair;
 pub fn stands(known: &Known<'_>, work: &Work, pair: &Pair) -> bool
     ensures { IsTrue result ↔ IsSome (slots_of known.now.pages.now work.now pair.now).entry }
 {
-    match work.opened.get(&pair.name) {
-        Some(slots) => match slots.get(&pair.arg) {
-            Some(slot) => slot.entry.is_some(),
-            None => false,
-        },
+    match touched(work, pair) {
+        Some(slot) => slot.entry.is_some(),
         None => known::node(known, pair).is_some(),
     }
 }

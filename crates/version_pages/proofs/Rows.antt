@@ -1,4 +1,4 @@
--- What stands at a place of a row, by the `Arc`s that hold it.
+-- What stands at a place of a block, by the `Arc`s that hold it.
 use Rattle.std.proofs.Common.{◌≡◌, ℕ, zero, suc, ◌<◌, ◌≤◌, ◌≢◌, List, [], ◌∷◌, length, false, true, is_some, get_or, set, refl, ap, sym, ◌∙◌, arith}
 use Rattle.std.specs.Prelude.{Option, None, Some, IsSome}
 use Rattle.std.specs.Option.{option_map}
@@ -32,10 +32,13 @@ module _ {X Z : Type 0} where
   place_held_past (x ∷ xs) (suc k) le = let past : length xs ≤ k = omega arith in place_held_past xs k past
 
   -- one place is written
+  pub place_held_set_here : (items : List (Option (Arc X Z))) (at : ℕ) (o : Option (Arc X Z)) → at < length items → place (held (set items at o)) at ≡ option_map arc_value o
+  place_held_set_here [] at o lt = absurd (omega arith)
+  place_held_set_here (x ∷ xs) zero o lt = refl
+  place_held_set_here (x ∷ xs) (suc at) o lt = let below : at < length xs = omega arith in place_held_set_here xs at o below
+
   pub place_held_set_same : (items : List (Option (Arc X Z))) (at : ℕ) (a : Arc X Z) → at < length items → place (held (set items at (Some a))) at ≡ Some (arc_value a)
-  place_held_set_same [] at a lt = absurd (omega arith)
-  place_held_set_same (x ∷ xs) zero a lt = refl
-  place_held_set_same (x ∷ xs) (suc at) a lt = let below : at < length xs = omega arith in place_held_set_same xs at a below
+  place_held_set_same items at a lt = place_held_set_here items at (Some a) lt
 
   pub place_held_set_other : (items : List (Option (Arc X Z))) (at : ℕ) (o : Option (Arc X Z)) (k : ℕ) → k ≢ at → place (held (set items at o)) k ≡ place (held items) k
   place_held_set_other [] at o k ne = refl

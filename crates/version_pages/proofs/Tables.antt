@@ -1,16 +1,15 @@
 -- What a table's map has at a name, and what a write of one place makes of it.
 use Rattle.std.proofs.Common.{◌≡◌, ℕ, zero, suc, ◌+◌, ◌*◌, ◌/◌, ◌%◌, ◌<◌, ◌≤◌, ◌≢◌, List, [], length, refl, sym, ap, ◌∙◌, subst, arith, inl, inr}
 use Rattle.std.specs.Prelude.{Option, None, Some, IsSome}
-use Rattle.std.specs.Option.{option_and_then}
 use Rattle.std.specs.Ordering.{nat_cmp}
 use Rattle.std.specs.Cmp.{nat_cmp_total}
 use Rattle.std.specs.FinMap.{FinMap, get, empty, insert, get-empty, same_map, nat_cmp-IsAntisymmetric, gets}
 use Rattle.std.proofs.lemmas.Grind.{common_steps}
 use Rattle.std.proofs.lemmas.Nat.{div-mul-add, mod-mul-add}
 use Rattle.std.proofs.lemmas.Bool.{cases_lt, cases_eq}
-use Rattle.std.proofs.lemmas.List.{get_or_past}
+use Rattle.version_pages.proofs.Widths.{on_page_past, IsPut, in_width-put_here, in_width-put_other, none_up_to}
 use Rattle.version_pages.specs.Names.{HasNamesOnly, HasNoneAbove, IsNextName}
-use Rattle.version_pages.specs.Table.{place, with_entry, map_below, on_page, at_name, map_of}
+use Rattle.version_pages.specs.Table.{with_entry, map_below, on_page, at_name, map_of}
 
 get-with_entry : {T : Type 0} (m : FinMap nat_cmp T) (n : ℕ) (v : Option T) (q : ℕ) → q ≢ n → get (with_entry m n v) q ≡ get m q
 get-with_entry m n None q ne = refl
@@ -45,9 +44,7 @@ get-map_below f (suc n) q lt =
 
 -- past the last page there is nothing
 at_name_past : {T : Type 0} (table : List (Option (List (Option T)))) (q : ℕ) → 1000 * length table ≤ q → at_name table q ≡ None
-at_name_past table q le =
-    let past : length table ≤ q / 1000 = omega arith in
-    ap (option_and_then (λ page. place page (q % 1000))) (get_or_past table (q / 1000) None past)
+at_name_past table q le = on_page_past table (q / 1000) (q % 1000) (omega arith)
 
 pub get-map_of : {T : Type 0} (table : List (Option (List (Option T)))) (q : ℕ) → get (map_of table) q ≡ at_name table q
 unfolding map_of
@@ -67,29 +64,6 @@ get-insert_same m n v = grind (arith, gets, common_steps)
 get-insert_other : {T : Type 0} (m : FinMap nat_cmp T) (n : ℕ) (v : T) (q : ℕ) → q ≢ n → get (insert m n v) q ≡ get m q
 get-insert_other m n v q ne = grind (arith, gets, common_steps)
 
--- `new` is `old` with one place of one page written
-pub record IsPut {T : Type 0} (old new : List (Option (List (Option T)))) (page : List (Option T)) (at spot : ℕ) (value : T) : Type 0 where
-  pub page_here : place page spot ≡ Some value
-  pub page_others : (k : ℕ) → k ≢ spot → place page k ≡ on_page old at k
-  pub table_here : place new at ≡ Some page
-  pub table_others : (k : ℕ) → k ≢ at → place new k ≡ place old k
-
-pub at_name-put_here : {T : Type 0} (old new : List (Option (List (Option T)))) (page : List (Option T)) (name : ℕ) (value : T)
-    → IsPut old new page (name / 1000) (name % 1000) value → at_name new name ≡ Some value
-at_name-put_here old new page name value is = rw is.table_here is.page_here
-
-pub at_name-put_other : {T : Type 0} (old new : List (Option (List (Option T)))) (page : List (Option T)) (name : ℕ) (value : T)
-    → IsPut old new page (name / 1000) (name % 1000) value → (q : ℕ) → q ≢ name → at_name new q ≡ at_name old q
-at_name-put_other old new page name value is q ne =
-    elim (cases_eq (q / 1000) (name / 1000)) [
-      | inr away ↦ ap (option_and_then (λ p. place p (q % 1000))) (is.table_others (q / 1000) away)
-      | inl same ↦
-          let apart : q % 1000 ≢ name % 1000 = λ e. ne (omega (arith, e, same)) in
-          ap (option_and_then (λ p. place p (q % 1000))) (ap (place new) same ∙ is.table_here)
-          ∙ is.page_others (q % 1000) apart
-          ∙ ap (λ (at : ℕ). on_page old at (q % 1000)) (sym same)
-    ]
-
 -- one place of one page is written: the map has one more value, or another one at its name
 pub map_of-put : {T : Type 0} (old new : List (Option (List (Option T)))) (page : List (Option T)) (name : ℕ) (value : T)
     → IsPut old new page (name / 1000) (name % 1000) value → map_of new ≡ insert (map_of old) name value
@@ -97,28 +71,13 @@ map_of-put old new page name value is =
     same_map nat_cmp_total nat_cmp-IsAntisymmetric _ _
     (λ q. elim (cases_eq q name) [
       | inl e ↦ subst (λ (k : ℕ). get (map_of new) k ≡ get (insert (map_of old) name value) k) (sym e)
-          (get-map_of new name ∙ at_name-put_here old new page name value is ∙ sym (get-insert_same (map_of old) name value))
-      | inr ne ↦ get-map_of new q ∙ at_name-put_other old new page name value is q ne ∙ sym (get-insert_other (map_of old) name value q ne ∙ get-map_of old q)
+          (get-map_of new name ∙ in_width-put_here 1000 old new page name value is ∙ sym (get-insert_same (map_of old) name value))
+      | inr ne ↦ get-map_of new q ∙ in_width-put_other 1000 old new page name value is q ne ∙ sym (get-insert_other (map_of old) name value q ne ∙ get-map_of old q)
     ])
 
 -- what stands at a name, by its page and its place
 pub at_name-row : {T : Type 0} (table : List (Option (List (Option T)))) (page at : ℕ) → at < 1000 → at_name table (page * 1000 + at) ≡ on_page table page at
 at_name-row table page at lt = rw (div-mul-add page 1000 at lt, mod-mul-add page 1000 at lt) refl
-
--- no name above `after` and below a place has anything, up to a later place of the same page
-pub none_up_to : {T : Type 0} (table : List (Option (List (Option T)))) (after page from upto : ℕ) → upto ≤ 1000
-    → ((name : ℕ) → after < name → name < page * 1000 + from → at_name table name ≡ None)
-    → ((k : ℕ) → from ≤ k → k < upto → on_page table page k ≡ None)
-    → (name : ℕ) → after < name → name < page * 1000 + upto → at_name table name ≡ None
-none_up_to table after page from upto le before none name above below =
-    elim (cases_lt name (page * 1000 + from)) [
-      | inl lt ↦ before name above lt
-      | inr ge ↦
-          let on : name / 1000 ≡ page = omega arith in
-          let late : from ≤ name % 1000 = omega arith in
-          let early : name % 1000 < upto = omega arith in
-          ap (λ (p : ℕ). on_page table p (name % 1000)) on ∙ none (name % 1000) late early
-    ]
 
 -- no name of a page that the table lacks has anything
 pub at_name_past_page : {T : Type 0} (table : List (Option (List (Option T)))) (page name : ℕ) → length table ≤ page → page * 1000 ≤ name → at_name table name ≡ None
@@ -159,7 +118,7 @@ IsReached-found table after page from at is few range found least =
       name = (omega arith, omega arith);
       above = omega arith;
       holds = subst IsSome (sym (get-map_of table (page * 1000 + at) ∙ at_name-row table page at fits)) found;
-      least = λ name above below. get-map_of table name ∙ none_up_to table after page from at (omega arith) is.none least name above below;
+      least = λ name above below. get-map_of table name ∙ none_up_to 1000 table (λ k. after < k) page from at (omega arith) is.none least name above below;
     }
 
 -- and past the last page there is no name more

@@ -1,5 +1,6 @@
 -- A table of pages, each with 1,000 places, as the map that it stands for.
 use Rattle.std.specs.Prelude.{ℕ, zero, suc, ◌*◌, ◌/◌, ◌%◌, List, length, Option, None, Some, slice_index_or, map}
+use Rattle.std.specs.List.{range_with_len}
 use Rattle.std.specs.Option.{option_and_then, option_map}
 use Rattle.std.specs.Arc.{arc_value}
 use Rattle.std.specs.declared.sync.Arc.{Arc}
@@ -25,7 +26,7 @@ module _ {T : Type 0} where
   map_below f zero = empty
   map_below f (suc n) = with_entry (map_below f n) n (f n)
 
--- what stands at a place of a page, which may be absent
+-- what stands at a place of a page of a table, or of a block of a row: the page or the block may be absent
 abbrev pub on_page : {T : Type 0} → List (Option (List (Option T))) → ℕ → ℕ → Option T
 on_page table page at = option_and_then (λ row. place row at) (place table page)
 
@@ -36,3 +37,11 @@ at_name table name = on_page table (name / 1000) (name % 1000)
 -- the map from names that a table stands for
 unfoldable pub map_of : {T : Type 0} → List (Option (List (Option T))) → FinMap nat_cmp T
 map_of table = map_below (at_name table) (1000 * length table)
+
+-- what stands at a place of a row that is held in blocks: its block is at / 25, and its place in the block at % 25
+abbrev pub in_blocks : {T : Type 0} → List (Option (List (Option T))) → ℕ → Option T
+in_blocks blocks at = on_page blocks (at / 25) (at % 25)
+
+-- the places of a row that is held in blocks, in their order
+unfoldable pub row_of : {T : Type 0} → List (Option (List (Option T))) → List (Option T)
+row_of blocks = map (in_blocks blocks) (range_with_len 0 (25 * length blocks))

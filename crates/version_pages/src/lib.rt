@@ -7,6 +7,7 @@ ghost use Rattle.std.specs.FinMap as map;
 ghost use Rattle.text_parts.specs.Names.{IsName};
 ghost use Rattle.version_pages.specs.Names.{HasNamesOnly, HasNoneAbove, IsNextName};
 
+mod block;
 mod row;
 mod table;
 

@@ -89,7 +89,7 @@ pub fn into_with_value<T: Drop>(
     let mut rest = table;
     let alloc = rest.allocator();
     let at = page_of(name);
-    let taken = rest.take(at);
+    let taken = rest.take(at)?;
     let page = into_page_with(alloc, taken, name, value)?;
     let new = rest.into_with(at, page)?;
     Ok(new)

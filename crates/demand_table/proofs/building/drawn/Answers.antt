@@ -1,10 +1,7 @@
 use Rattle.std.proofs.Math.Facts.{Fits-lt-pow}
-use Rattle.std.proofs.Common.{ℕ, ◌<◌, ◌^◌, ◌≡◌, ◌∙◌, refl, sym, ap, subst, pos, List, Contains}
-use Rattle.std.specs.Prelude.{IsSome}
+use Rattle.std.proofs.Common.{◌<◌, ◌^◌, sym, ap, subst, List, Contains}
 use Rattle.loda_semantics.specs.declared.kinds.Pair.{Pair}
-use Rattle.program_store.specs.Store.{checked_at}
-use Rattle.seq_calls.specs.Frames.{pair}
-use Rattle.demand_table.specs.Gathered.{IsUndrawn, AreLiveRuns}
+use Rattle.demand_table.specs.Gathered.{IsUndrawn}
 use Rattle.demand_table.specs.Loaded.{Folders, slots_of}
 use Rattle.demand_table.specs.Mending.{IsForgetting}
 use Rattle.demand_table.proofs.Gathers.{checked_values}
@@ -28,6 +25,9 @@ settle_all-requires-clause-settling c =
       can = can s (checked_values s c.args.limit fits c.requires.values) w w4 g.callers g.pairs.items listed g.stand many c.in_ok-gathered.ensures.gathered c.in_ok-gathered.ensures.all forgot;
       many = forgot.count;
     }
+
+pub settle_all-requires-clause-stand : goal.settle_all-requires-clause-stand
+settle_all-requires-clause-stand c = λ q at. c.in_ok-waiting.ensures.stand q (subst (λ (l : List Pair). Contains l q) c.deref-2.ensures.value at)
 
 pub returns-clause-tabled : goal.returns-clause-tabled
 returns-clause-tabled c =

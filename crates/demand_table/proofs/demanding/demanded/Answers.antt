@@ -1,4 +1,4 @@
-use Rattle.std.proofs.Common.{ℕ, ◌≡◌, ◌∙◌, refl, sym, ap, subst}
+use Rattle.std.proofs.Common.{◌∙◌, sym, ap}
 use Rattle.demand_table.specs.Demanded.{called_in}
 use Rattle.demand_table.specs.Loaded.{node_at}
 use Rattle.demand_table.specs.Mended.{runs_of}

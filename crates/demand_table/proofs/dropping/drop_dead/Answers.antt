@@ -1,9 +1,7 @@
-use Rattle.std.proofs.Common.{ℕ, take, ◌≡◌, ◌<◌, ◌-◌, ◌∙◌, refl, sym, ap, subst, List, [], ◌∷◌, ◌++◌, Contains, arith, suc}
+use Rattle.std.proofs.Common.{ℕ, take, ◌≡◌, ◌-◌, ◌∙◌, sym, ap, subst, List, [], ◌∷◌, ◌++◌, Contains, arith}
 use Rattle.std.specs.Prelude.{IsSome}
-use Rattle.std.specs.declared.option.Option.{Option}
 use Rattle.std.specs.declared.option.Option.TheVariants.{None, Some}
 use Rattle.loda_semantics.specs.declared.kinds.Pair.{Pair}
-use Rattle.demand_table.specs.declared.entry.Entry.{Entry}
 use Rattle.demand_table.specs.declared.slot.Slot.{Slot}
 use Rattle.demand_table.specs.Loaded.{slots_of, checks_in}
 use Rattle.demand_table.specs.Drawn.{CheckedRanges, Runs, RunCalls}

@@ -1,6 +1,5 @@
-use Rattle.std.proofs.Common.{ℕ, ◌+◌, ◌≡◌, ◌∙◌, refl, sym, ap, subst, take, List, [], ◌∷◌, ◌++◌, Bool, true, false}
+use Rattle.std.proofs.Common.{ℕ, ◌∙◌, sym, ap, subst, take, List, [], ◌∷◌, ◌++◌, Bool, true, false}
 use Rattle.loda_semantics.specs.declared.kinds.Pair.{Pair}
-use Rattle.demand_table.specs.declared.work.Work.{Work}
 use Rattle.demand_table.specs.Loaded.{slots_of}
 use Rattle.demand_table.specs.Mending.{IsForgetting, IsForgot}
 use Rattle.demand_table.proofs.Lowering.{upto}

@@ -1,9 +1,8 @@
 use Rattle.std.proofs.Math.Facts.{Fits-lt-pow}
-use Rattle.std.proofs.Common.{ℕ, ◌<◌, ◌^◌, ◌≡◌, ◌∙◌, refl, sym, ap, pos, List}
+use Rattle.std.proofs.Common.{◌<◌, ◌^◌, ◌∙◌, ap, pos}
 use Rattle.loda_semantics.specs.Exec.{run_name}
 use Rattle.program_store.specs.Store.{programs_of}
 use Rattle.seq_calls.specs.Frames.{nodes_of}
-use Rattle.seq_calls.specs.Demand.{ample}
 use Rattle.demand_table.specs.Loaded.{slots_of}
 use Rattle.demand_table.proofs.Gathers.{same_run, keeps_runs, one_more_run, run_there}
 use Rattle.demand_table.proofs.gathering.with_run.Goals as goal

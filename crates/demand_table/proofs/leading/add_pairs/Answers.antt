@@ -1,4 +1,4 @@
-use Rattle.std.proofs.Common.{◌+◌, ◌≡◌, ◌∙◌, refl, sym, ap, subst, take, List, [], ◌∷◌, ◌++◌, Contains}
+use Rattle.std.proofs.Common.{◌≡◌, ◌∙◌, sym, ap, subst, take, List, [], ◌∷◌, ◌++◌}
 use Rattle.loda_semantics.specs.declared.kinds.Pair.{Pair}
 use Rattle.demand_table.specs.Leading.{AddsPairs, HasJust}
 use Rattle.demand_table.proofs.Leads.{pairs_none, pairs_again, pairs_more, just_again}

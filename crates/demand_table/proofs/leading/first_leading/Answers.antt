@@ -1,5 +1,4 @@
-use Rattle.std.proofs.Common.{ℕ, ◌<◌, ◌≤◌, ◌≡◌, ap, true, false, arith}
-use Rattle.demand_table.specs.Leading.{LeadsTo}
+use Rattle.std.proofs.Common.{◌≡◌, ap, true, false, arith}
 use Rattle.demand_table.specs.Loaded.{node_at, the_pair}
 use Rattle.demand_table.proofs.Leads.{none_next}
 use Rattle.demand_table.proofs.leading.first_leading.Goals as goal

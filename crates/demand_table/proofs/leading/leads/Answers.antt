@@ -1,6 +1,6 @@
-use Rattle.std.proofs.Common.{ℕ, ◌+◌, ◌<◌, ◌≤◌, ◌≡◌, ◌∙◌, refl, sym, ap, subst, true, false, get_or, List, [], ◌∷◌, Contains, length, arith}
+use Rattle.std.proofs.Common.{ℕ, ◌≤◌, ◌≡◌, refl, sym, subst, true, false, List, Contains, length, arith}
 use Rattle.loda_semantics.specs.declared.kinds.Pair.{Pair}
-use Rattle.demand_table.specs.Leading.{calls_at, LeadsTo, AreBarren, HasJust, AddsPairs}
+use Rattle.demand_table.specs.Leading.{calls_at, AddsPairs}
 use Rattle.demand_table.specs.Loaded.{node_at}
 use Rattle.demand_table.proofs.Leads.{IsSearching, search_starts, search_on, search_found, search_ends}
 use Rattle.demand_table.proofs.leading.leads.Goals as goal

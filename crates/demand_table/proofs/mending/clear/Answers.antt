@@ -1,19 +1,15 @@
-use Rattle.std.proofs.Common.{ℕ, ◌+◌, ◌<◌, ◌≤◌, ◌≡◌, ◌∙◌, refl, sym, ap, subst, take, List, [], ◌∷◌, ◌++◌, Contains, arith}
-use Rattle.std.specs.Prelude.{IsSome}
-use Rattle.std.specs.declared.option.Option.TheVariants.{Some, None}
+use Rattle.std.proofs.Common.{◌≡◌, ◌∙◌, sym, ap, subst, take, List, [], ◌∷◌, ◌++◌}
 use Rattle.std.proofs.lemmas.List.{take_more, take_all}
 use Rattle.demand_table.specs.declared.node.Node.{Node}
-use Rattle.loda_semantics.specs.declared.kinds.Pair.{Pair}
 use Rattle.demand_table.specs.Loaded.{slots_of}
 use Rattle.demand_table.specs.Mending.{IsClearing}
-use Rattle.demand_table.proofs.Clearing.{clearing_none, clearing_copied, clearing_more, cleared_all, has_node, has_none}
+use Rattle.demand_table.proofs.Clearing.{clearing_none, clearing_more, cleared_all, has_node, has_none}
 use Rattle.demand_table.proofs.mending.clear.Goals as goal
 
 pub loop-node-init : goal.loop-node-init
 loop-node-init c =
     let old = slots_of c.args.known.now.pages.now c.args.work.now in
-    clearing_copied old (slots_of c.args.known.now.pages.now c.open.new.work) c.args.name [] c.args.pending.now.items c.args.many c.in_ok-open.ensures
-    (clearing_none old c.args.name c.args.pending.now.items c.args.many c.requires.counted c.requires.many)
+    clearing_none old c.args.name c.args.pending.now.items c.args.many c.requires.counted c.requires.many
 
 pub loop-node-preserved : goal.loop-node-preserved
 loop-node-preserved c =
@@ -30,8 +26,7 @@ pub returns-in_default : goal.returns-in_default
 returns-in_default c =
     let old = slots_of c.args.known.now.pages.now c.args.work.now in
     let pending = c.args.pending.now.items in
-    cleared_all old (slots_of c.args.known.now.pages.now c.open.new.work) c.args.name [] pending pending c.args.many
-    (clearing_copied old (slots_of c.args.known.now.pages.now c.open.new.work) c.args.name [] pending c.args.many c.in_ok-open.ensures (clearing_none old c.args.name pending c.args.many c.requires.counted c.requires.many))
+    cleared_all old old c.args.name [] pending pending c.args.many (clearing_none old c.args.name pending c.args.many c.requires.counted c.requires.many)
     (λ q is here. absurd (has_none c.args.known.now.pages.now q c.args.name (old q) (c.requires.fresh q) is (sym c.in_default.ensures) here))
 
 pub returns-after-loop-node : goal.returns-after-loop-node

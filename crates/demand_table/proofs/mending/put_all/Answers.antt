@@ -1,4 +1,4 @@
-use Rattle.std.proofs.Common.{ℕ, ◌+◌, ◌≡◌, ◌∙◌, refl, sym, ap, subst, take, List, [], ◌∷◌, ◌++◌, Bool, true, false}
+use Rattle.std.proofs.Common.{ℕ, ◌∙◌, sym, subst, take, List, [], ◌∷◌, ◌++◌, Bool, true, false}
 use Rattle.loda_semantics.specs.declared.kinds.Pair.{Pair}
 use Rattle.seq_calls.specs.declared.outcomes.NodeRun.{NodeRun}
 use Rattle.demand_table.specs.declared.work.Work.{Work}

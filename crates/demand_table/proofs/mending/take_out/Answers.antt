@@ -1,8 +1,7 @@
-use Rattle.std.proofs.Common.{ℕ, ◌<◌, ◌≤◌, ◌≡◌, ◌∙◌, refl, sym, ap, subst, List, Contains, arith}
+use Rattle.std.proofs.Common.{◌≡◌, ◌∙◌, sym, subst, List, Contains, arith}
 use Rattle.std.specs.Prelude.{IsSome}
-use Rattle.std.specs.declared.option.Option.TheVariants.{Some, None}
+use Rattle.std.specs.declared.option.Option.TheVariants.{Some}
 use Rattle.loda_semantics.specs.declared.kinds.Pair.{Pair}
-use Rattle.demand_table.specs.declared.entry.Entry.{Entry}
 use Rattle.demand_table.specs.Drawn.{RunCalls}
 use Rattle.demand_table.specs.Work.{runs_in}
 use Rattle.demand_table.specs.Loaded.{slots_of}

@@ -1,4 +1,4 @@
-use Rattle.std.proofs.Common.{◌≡◌, ◌∙◌, refl, sym, ap, subst, take, List, [], ◌∷◌, ◌++◌, Contains}
+use Rattle.std.proofs.Common.{sym, subst, take, List, [], ◌∷◌, ◌++◌}
 use Rattle.loda_semantics.specs.declared.kinds.Pair.{Pair}
 use Rattle.demand_table.specs.declared.work.Work.{Work}
 use Rattle.demand_table.specs.Loaded.{slots_of}

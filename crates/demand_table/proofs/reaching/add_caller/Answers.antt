@@ -1,7 +1,4 @@
-use Rattle.std.proofs.Common.{ℕ, ◌+◌, ◌≡◌, ◌∙◌, refl, sym, ap, subst, List, [], ◌∷◌, ◌++◌, rules, arith}
-use Rattle.std.proofs.lemmas.Grind.{common_steps}
-use Rattle.demand_table.specs.declared.names.Names.{Names}
-use Rattle.demand_table.specs.Upward.{names_filed_under}
+use Rattle.std.proofs.Common.{ℕ, ◌≡◌, ◌∙◌, ap, List, [], ◌∷◌, ◌++◌, rules}
 use Rattle.demand_table.proofs.Reached.{joined_here, joined_grows}
 use Rattle.demand_table.proofs.reaching.add_caller.Goals as goal
 

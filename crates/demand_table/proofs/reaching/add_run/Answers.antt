@@ -1,4 +1,4 @@
-use Rattle.std.proofs.Common.{ℕ, ◌+◌, ◌≡◌, ◌∙◌, refl, sym, ap, subst, take, List, [], ◌∷◌, ◌++◌, Contains}
+use Rattle.std.proofs.Common.{◌+◌, ◌∙◌, sym, ap, subst, take, List, Contains}
 use Rattle.text_parts.specs.Names.{IsName}
 use Rattle.loda_semantics.specs.declared.kinds.Pair.{Pair}
 use Rattle.demand_table.specs.Upward.{names_filed_under}

@@ -1,4 +1,4 @@
-use Rattle.std.proofs.Common.{ℕ, ◌+◌, ◌≡◌, ◌∙◌, refl, sym, ap, subst, take, List, [], ◌∷◌, ◌++◌}
+use Rattle.std.proofs.Common.{sym, subst, take, List}
 use Rattle.seq_calls.specs.declared.outcomes.NodeRun.{NodeRun}
 use Rattle.demand_table.proofs.Placing.{runs_upto}
 use Rattle.demand_table.proofs.Reached.{HasReached, reached_more}

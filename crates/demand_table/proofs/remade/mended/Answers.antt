@@ -1,13 +1,11 @@
-use Rattle.std.proofs.Common.{ℕ, ◌≡◌, ◌∙◌, refl, sym, ap, subst, List, [], ◌∷◌, Contains}
+use Rattle.std.proofs.Common.{◌∙◌, sym, subst, List, Contains}
 use Rattle.std.specs.Prelude.{IsSome}
 use Rattle.loda_semantics.specs.declared.kinds.Pair.{Pair}
 use Rattle.demand_table.specs.declared.work.Work.{Work}
-use Rattle.demand_table.specs.declared.node.Node.{Node}
 use Rattle.demand_table.specs.Counts.{IsCount}
-use Rattle.demand_table.specs.Drawn.{CheckedRanges, Runs, Drawing, IsDrawn, with_range, HasNoCycle}
-use Rattle.demand_table.specs.Loaded.{Folders, slots_of, slot_of, node_at, checks_of, checks_in}
-use Rattle.demand_table.specs.Work.{Slots, runs_in, IsDropping, IsDropped}
-use Rattle.demand_table.specs.Settling.{IsSettling}
+use Rattle.demand_table.specs.Drawn.{Runs, IsDrawn, with_range, HasNoCycle}
+use Rattle.demand_table.specs.Loaded.{Folders, slots_of, node_at, checks_of}
+use Rattle.demand_table.specs.Work.{runs_in, IsDropping, IsDropped}
 use Rattle.demand_table.specs.Mended.{mended, run_at, runs_of, drawing_of}
 use Rattle.demand_table.specs.Mending.{IsCleared}
 use Rattle.demand_table.proofs.Drawings.{drawn_from}
@@ -16,17 +14,17 @@ use Rattle.demand_table.proofs.remade.mended.Goals as goal
 
 pub clear-requires-clause-counted : goal.clear-requires-clause-counted
 clear-requires-clause-counted c =
-    let w : Work = record { opened = c.new.result } in
+    let w : Work = record { touched = c.new.result } in
     counted_first (checks_of c.args.folders.now) (node_at c.args.folders.now) c.requires.drawn (slots_of c.of-known.result.pages.now w) (slots_first w c.of-known.result.pages.now c.args.folders.now c.new.ensures.empty c.of-known.ensures)
 
 pub clear-requires-clause-many : goal.clear-requires-clause-many
 clear-requires-clause-many c =
-    let w : Work = record { opened = c.new.result } in
+    let w : Work = record { touched = c.new.result } in
     many_first (node_at c.args.folders.now) (slots_of c.of-known.result.pages.now w) c.args.nodes (slots_first w c.of-known.result.pages.now c.args.folders.now c.new.ensures.empty c.of-known.ensures) c.requires.count
 
 pub drop_dead-requires-clause-no_cycle : goal.drop_dead-requires-clause-no_cycle
 drop_dead-requires-clause-no_cycle c =
-    let w : Work = record { opened = c.new.result } in
+    let w : Work = record { touched = c.new.result } in
     let fresh = slots_first w c.of-known.result.pages.now c.args.folders.now c.new.ensures.empty c.of-known.ensures in
     let cleared = subst (λ (l : List Pair). IsCleared (slots_of c.of-known.result.pages.now w) (slots_of c.of-known.result.pages.now c.clear.new.work) c.args.name l c.clear.new.pending.items c.in_ok-left.left) c.new-pending.ensures.items c.in_ok-left.ensures in
     let all = mended_all (checks_of c.args.folders.now) (node_at c.args.folders.now) c.requires.drawn (slots_of c.of-known.result.pages.now w) fresh c.args.name c.args.range c.args.runs.now c.requires.fits
@@ -35,7 +33,7 @@ drop_dead-requires-clause-no_cycle c =
 
 pub drop_dead-requires-clause-dropping : goal.drop_dead-requires-clause-dropping
 drop_dead-requires-clause-dropping c =
-    let w : Work = record { opened = c.new.result } in
+    let w : Work = record { touched = c.new.result } in
     let fresh = slots_first w c.of-known.result.pages.now c.args.folders.now c.new.ensures.empty c.of-known.ensures in
     let cleared = subst (λ (l : List Pair). IsCleared (slots_of c.of-known.result.pages.now w) (slots_of c.of-known.result.pages.now c.clear.new.work) c.args.name l c.clear.new.pending.items c.in_ok-left.left) c.new-pending.ensures.items c.in_ok-left.ensures in
     let starts = dropping_starts (checks_of c.args.folders.now) (node_at c.args.folders.now) c.requires.drawn (slots_of c.of-known.result.pages.now w) fresh c.args.name c.args.range c.args.runs.now c.requires.fits
@@ -44,7 +42,7 @@ drop_dead-requires-clause-dropping c =
 
 pub forget_all-requires-clause-settled : goal.forget_all-requires-clause-settled
 forget_all-requires-clause-settled c =
-    let w : Work = record { opened = c.new.result } in
+    let w : Work = record { touched = c.new.result } in
     let fresh = slots_first w c.of-known.result.pages.now c.args.folders.now c.new.ensures.empty c.of-known.ensures in
     let cleared = subst (λ (l : List Pair). IsCleared (slots_of c.of-known.result.pages.now w) (slots_of c.of-known.result.pages.now c.clear.new.work) c.args.name l c.clear.new.pending.items c.in_ok-left.left) c.new-pending.ensures.items c.in_ok-left.ensures in
     let none = none_unsettled (checks_of c.args.folders.now) (node_at c.args.folders.now) c.requires.drawn (slots_of c.of-known.result.pages.now w) fresh c.args.name c.args.range c.args.runs.now c.requires.fits
@@ -55,7 +53,7 @@ pub settle_all-requires-clause-settling : goal.settle_all-requires-clause-settli
 settle_all-requires-clause-settling c =
     let D = node_at c.args.folders.now in
     let C = checks_of c.args.folders.now in
-    let w : Work = record { opened = c.new.result } in
+    let w : Work = record { touched = c.new.result } in
     let w2 = slots_of c.of-known.result.pages.now c.put_all.new.work in
     let w3 = slots_of c.of-known.result.pages.now c.drop_dead.new.work in
     let w4 = slots_of c.of-known.result.pages.now c.forget_all.new.work in
@@ -73,6 +71,9 @@ settle_all-requires-clause-settling c =
       many = c.in_ok-waiting.ensures.count;
     }
 
+pub settle_all-requires-clause-stand : goal.settle_all-requires-clause-stand
+settle_all-requires-clause-stand c = λ q at. c.in_ok-waiting.ensures.stand q (subst (λ (l : List Pair). Contains l q) c.deref-2.ensures.value at)
+
 pub returns-clause-drawn : goal.returns-clause-drawn
 returns-clause-drawn c =
     let C = with_range (checks_of c.args.folders.now) c.args.name c.args.range in
@@ -84,7 +85,7 @@ returns-clause-drawn c =
     let forgot = c.in_ok-waiting.ensures in
     let dropped = subst (λ (f : Folders). IsDropped (with_range (checks_of f) c.args.name c.args.range) (runs_in w2) w3 c.in_ok-nodes.nodes) c.of.ensures c.in_ok-nodes.ensures.dropped in
     let last = dropped_same C (runs_in w2) w3 w5 c.in_ok-nodes.nodes (λ q. settles.entry q ∙ forgot.entry q) (λ q. settles.callers q ∙ forgot.callers q) dropped in
-    let w : Work = record { opened = c.new.result } in
+    let w : Work = record { touched = c.new.result } in
     let fresh = slots_first w c.of-known.result.pages.now c.args.folders.now c.new.ensures.empty c.of-known.ensures in
     let cleared = subst (λ (l : List Pair). IsCleared (slots_of c.of-known.result.pages.now w) (slots_of c.of-known.result.pages.now c.clear.new.work) c.args.name l c.clear.new.pending.items c.in_ok-left.left) c.new-pending.ensures.items c.in_ok-left.ensures in
     let all = mended_all (checks_of c.args.folders.now) (node_at c.args.folders.now) c.requires.drawn (slots_of c.of-known.result.pages.now w) fresh c.args.name c.args.range c.args.runs.now c.requires.fits

@@ -1,4 +1,4 @@
-use Rattle.std.proofs.Common.{ℕ, ◌≡◌, ◌∙◌, refl, sym, ap, subst, List, Contains}
+use Rattle.std.proofs.Common.{ℕ, ◌≡◌, sym, subst, List, Contains}
 use Rattle.std.specs.Prelude.{IsSome}
 use Rattle.version_pages.specs.Names.{HasNamesOnly}
 use Rattle.loda_semantics.specs.declared.kinds.Pair.{Pair}

@@ -1,16 +1,13 @@
-use Rattle.std.proofs.Common.{ℕ, suc, ◌+◌, ◌-◌, ◌*◌, ◌<◌, ◌≤◌, ◌≡◌, ◌∙◌, ◌⊎◌, inl, inr, refl, sym, ap, subst, List, [], ◌∷◌, ◌++◌, Contains, length, take, arith}
+use Rattle.std.proofs.Common.{ℕ, ◌-◌, ◌≡◌, ◌∙◌, ◌⊎◌, inl, inr, refl, sym, ap, subst, List, [], ◌∷◌, ◌++◌, Contains, length, arith}
 use Rattle.std.specs.Prelude.{IsSome}
-use Rattle.std.specs.declared.option.Option.{Option}
-use Rattle.std.specs.declared.option.Option.TheVariants.{Some, None}
 use Rattle.std.proofs.lemmas.List.{length_push}
 use Rattle.std.proofs.lemmas.List.Elements.{Contains-append_left, Contains-push, Contains-push_cases}
 use Rattle.loda_semantics.specs.declared.kinds.Pair.{Pair}
 use Rattle.demand_table.specs.declared.frame.Frame.{Frame}
 use Rattle.demand_table.specs.Loaded.{slots_of}
 use Rattle.demand_table.specs.Work.{Slots}
-use Rattle.demand_table.specs.Settling.{IsUnsettled, IsStacked, IsSettling, Settles, pairs_of}
-use Rattle.demand_table.proofs.Counts.{nil-cases}
-use Rattle.demand_table.proofs.Totals.{pairs_push, stack_few, settled_top, set_settles, set_known, waited, stacked_one, settles_none, settles_then}
+use Rattle.demand_table.specs.Settling.{IsUnsettled, IsStacked, pairs_of}
+use Rattle.demand_table.proofs.Totals.{pairs_push, stack_few, settled_top, set_settles, set_known, waited, settles_then}
 use Rattle.demand_table.proofs.settling.settle.Goals as goal
 
 with_top : (w : Slots) (items stack : List Frame) (f : Frame) (left : ℕ) → items ≡ stack ++ f ∷ [] → IsStacked w items left → IsStacked w (stack ++ f ∷ []) left

@@ -1,4 +1,4 @@
-use Rattle.std.proofs.Common.{ℕ, inl, inr, arith, ◌⊎◌, ◌+◌, ◌<◌, ◌≤◌, ◌≡◌, ◌∙◌, refl, sym, ap, subst, List, [], ◌∷◌, Contains, length, drop, get_or, Bool, true, false}
+use Rattle.std.proofs.Common.{ℕ, inl, inr, ◌+◌, ◌<◌, ◌≡◌, ◌∙◌, refl, sym, ap, subst, List, [], ◌∷◌, Contains, length, drop, get_or, true, false}
 use Rattle.std.specs.Prelude.{IsSome}
 use Rattle.std.specs.Option.{is_some}
 use Rattle.std.specs.declared.option.Option.{Option}
@@ -12,9 +12,7 @@ use Rattle.demand_table.specs.Work.{Slots}
 use Rattle.demand_table.specs.Settling.{IsUnsettled, IsSettling, Settles}
 use Rattle.demand_table.proofs.Counts.{nil-cases, cons-cases}
 use Rattle.demand_table.proofs.Counted.{none_is_some}
-use Rattle.demand_table.proofs.Totals.{settles_none, settles_then}
-use Rattle.demand_table.proofs.Drawings.{drawn_from}
-use Rattle.demand_table.proofs.Whole.{dropping_starts, none_unsettled, settling_starts}
+use Rattle.demand_table.proofs.Totals.{settles_then}
 use Rattle.demand_table.proofs.settling.settle_all.Goals as goal
 use Rattle.demand_table.proofs.settling.settle_all.Goals.{then-is_none+in_ok-left, else-is_none}
 

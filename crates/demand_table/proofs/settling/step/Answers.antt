@@ -1,4 +1,4 @@
-use Rattle.std.proofs.Common.{ℕ, ◌+◌, ◌<◌, ◌≤◌, ◌^◌, arith, sum_by, ◌≡◌, ◌∙◌, refl, sym, ap, subst, List, Contains}
+use Rattle.std.proofs.Common.{◌+◌, arith, sum_by, ◌≡◌, ◌∙◌, sym, ap, subst, List, Contains}
 use Rattle.std.specs.Prelude.{IsSome}
 use Rattle.std.specs.declared.option.Option.TheVariants.{Some, None}
 use Rattle.loda_semantics.specs.declared.kinds.Pair.{Pair}

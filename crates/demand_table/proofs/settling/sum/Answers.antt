@@ -1,9 +1,5 @@
-use Rattle.std.proofs.Common.{ℕ, ◌+◌, ◌<◌, ◌≤◌, ◌≡◌, ◌∙◌, ◌^◌, refl, sym, ap, subst, take, arith, Fits, w64, sum_by, get_or}
-use Rattle.std.specs.Prelude.{IsSome}
-use Rattle.std.specs.declared.option.Option.{Option}
-use Rattle.std.specs.declared.option.Option.TheVariants.{Some, None}
+use Rattle.std.proofs.Common.{◌+◌, ◌<◌, ◌≡◌, ◌∙◌, ◌^◌, sym, ap, arith, get_or}
 use Rattle.std.proofs.lemmas.List.Sums.{sum_by_more, sum_by_more_le}
-use Rattle.loda_semantics.specs.declared.kinds.Pair.{Pair}
 use Rattle.demand_table.specs.Loaded.{slots_of}
 use Rattle.demand_table.proofs.Counted.{none_is_some}
 use Rattle.demand_table.proofs.settling.sum.Goals as goal

@@ -1,13 +1,26 @@
+use Rattle.std.proofs.Common.{◌≡◌, refl, sym, subst, ℤ}
+use Rattle.std.specs.Prelude.{IsSome}
+use Rattle.std.specs.Ordering.{nat_cmp}
+use Rattle.std.specs.BTreeMap as tree
+use Rattle.std.specs.BTreeMap.{BTreeMap}
+use Rattle.std.specs.declared.option.Option.{Option}
 use Rattle.std.specs.declared.option.Option.TheVariants.{Some}
-use Rattle.demand_table.specs.Loaded.{slots_of}
-use Rattle.demand_table.proofs.Loaded.{slot_others, slot_here, through_set}
+use Rattle.demand_table.specs.declared.slot.Slot.{Slot}
+use Rattle.demand_table.specs.declared.work.Work.{Work}
+use Rattle.demand_table.proofs.Loaded.{slot_here, slot_others, slots_set}
 use Rattle.demand_table.proofs.slots.store.Goals as goal
 
-pub returns : goal.returns
-returns c =
-    let before = c.in_ok-slots.slots in
-    let after = c.insert.new.self in
-    let x = c.args.pair.now.arg in
-    through_set (slots_of c.args.known.now.pages.now c.args.work.now) (slots_of c.args.known.now.pages.now c.take_name.new.work) (slots_of c.args.known.now.pages.now c.put_name.new.work) c.args.pair.now before after
-    c.in_ok-slots.ensures.slots c.in_ok-slots.ensures.others c.in_ok-put_name.ensures.slots c.in_ok-put_name.ensures.others
-    (slot_others before after x (Some c.args.slot) c.in_ok-insert.ensures.updates) c.args.slot (slot_here before after x (Some c.args.slot) c.in_ok-insert.ensures.updates)
+pub returns-in-Some : goal.returns-in-Some
+returns-in-Some c =
+    let old = c.args.work.now.touched in
+    let was = c.in-Some.slots.now in
+    let now = c.insert.new.self in
+    let all = c.get_mut.follows.lender now in
+    let p = c.args.pair.now in
+    let there : tree.get nat_cmp old p.name ≡ Some was = sym c.in-Some.ensures.value in
+    let some : IsSome (tree.get nat_cmp old p.name) = subst (λ (o : Option (BTreeMap ℤ Slot)). IsSome o) (sym there) refl in
+    let outer = (c.get_mut.follows.holds now).3 some in
+    let inner = c.in_ok-insert.ensures.updates in
+    let next : Work = record { touched = all } in
+    slots_set c.args.work.now next c.args.known.now.pages.now p (slot_others old all p was now (Some c.args.slot) there outer inner) c.args.slot
+    (slot_here old all p was now (Some c.args.slot) there outer inner)

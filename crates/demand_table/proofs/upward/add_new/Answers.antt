@@ -1,4 +1,4 @@
-use Rattle.std.proofs.Common.{ℕ, ◌+◌, ◌≡◌, ◌∙◌, refl, sym, ap, subst, take, get_or, List, [], ◌∷◌, ◌++◌, Contains}
+use Rattle.std.proofs.Common.{ℕ, ◌≡◌, ◌∙◌, sym, ap, subst, take, get_or, List, [], ◌∷◌, ◌++◌, Contains}
 use Rattle.std.proofs.lemmas.List.Elements.{Contains-push}
 use Rattle.demand_table.specs.Upward.{AddsNames, IsMetOnly}
 use Rattle.demand_table.proofs.Rising.{upto_name, adds_again, adds_more, met_only, met_longer, was_there}

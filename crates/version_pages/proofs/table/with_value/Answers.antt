@@ -1,5 +1,6 @@
 use Rattle.std.proofs.Common.{◌/◌, ◌%◌, ◌≢◌, arith}
-use Rattle.version_pages.proofs.Tables.{IsPut, map_of-put, at_name-put_other}
+use Rattle.version_pages.proofs.Widths.{IsPut, in_width-put_other}
+use Rattle.version_pages.proofs.Tables.{map_of-put}
 use Rattle.version_pages.proofs.table.with_value.Goals as goal
 
 is_put : (g : _) (c : goal.In_ok-new g) → IsPut c.args.table.now c.in_ok-new.new c.in_ok-page.page (c.args.name / 1000) (c.args.name % 1000) c.args.value
@@ -16,4 +17,4 @@ returns-clause-map g c = map_of-put _ _ _ _ _ (is_put g c)
 pub returns-clause-zeroth : goal.returns-clause-zeroth
 returns-clause-zeroth g c =
     let named : 0 ≢ c.args.name = omega arith in
-    at_name-put_other _ _ _ _ _ (is_put g c) 0 named
+    in_width-put_other 1000 _ _ _ _ _ (is_put g c) 0 named

@@ -2,7 +2,6 @@ use Rattle.std.proofs.Common.{◌≡◌, subst}
 use Rattle.std.specs.declared.option.Option.TheVariants.{Some}
 use Rattle.program_store.specs.Store.{Store, programs_of}
 use Rattle.seq_calls.specs.Frames.{pair}
-use Rattle.demand_table.specs.declared.node.Node.{Node}
 use Rattle.demand_table.specs.Counts.{IsCount}
 use Rattle.demand_table.specs.Drawn.{node_entry}
 use Rattle.demand_table.specs.Loaded.{node_at}

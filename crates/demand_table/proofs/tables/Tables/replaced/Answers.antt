@@ -1,8 +1,7 @@
-use Rattle.std.proofs.Common.{rules, ◌≡◌, ◌∙◌, sym, ap, subst}
-use Rattle.loda_syntax.specs.WellFormed.{IsProgram}
+use Rattle.std.proofs.Common.{rules, ◌≡◌, ◌∙◌, sym, subst}
 use Rattle.program_store.specs.Store.{Store, put_in}
 use Rattle.program_store.proofs.Entries.{IsStore-insert}
-use Rattle.demand_table.specs.Loaded.{Folders, node_at, checks_of}
+use Rattle.demand_table.specs.Loaded.{node_at}
 use Rattle.demand_table.specs.Tabled.{IsTabled}
 use Rattle.demand_table.proofs.Next.{fits_now, table_next, checks_next}
 use Rattle.demand_table.proofs.tables.Tables.replaced.Goals as goal
