@@ -10,7 +10,7 @@ use Rattle.minimiser.specs.Cuts.{cut_at}
 use Rattle.minimiser.specs.Minimum.{is_good, first_good, minimum_of, after_cuts, minimum}
 use Rattle.minimiser.specs.Laws.{HasNoGoodCut, IsFirstGoodCut, MinimumUnfolds}
 use Rattle.minimiser.specs.Given.{AreGiven, is_good_for, if_good}
-use Rattle.minimiser.specs.declared.minimising.Given.{Given}
+use Rattle.minimiser.specs.declared.trying.Given.{Given}
 use Rattle.minimiser.proofs.Found.{found_from, FirstAt, found_none, found_some}
 use Rattle.minimiser.proofs.Runs.{good_same}
 use Rattle.minimiser.proofs.Parts.{length-cut, cut_from, cut_to, cut_within}

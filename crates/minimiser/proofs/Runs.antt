@@ -6,17 +6,17 @@ use Rattle.std.specs.List.{list_all}
 use Rattle.std.proofs.lemmas.Bool.{and_parts, and_from, leb-true, le-leb}
 use Rattle.std.proofs.lemmas.Bool.Decides.{Decides-int_eq}
 use Rattle.std.proofs.lemmas.List.Folds.{list_all-map}
-use Rattle.std.proofs.lemmas.List.{take_more, map-append}
+use Rattle.std.proofs.lemmas.List.{take_more, take_all, map-append, length-map, get_or-map}
 use Rattle.std.proofs.lemmas.List.Elements.{All-append, All-cons}
 use Rattle.std.proofs.Math.Seq.{drop-cons}
 use Rattle.loda_syntax.specs.Programs.{Text}
 use Rattle.loda_semantics.specs.declared.kinds.FaultKind.{FaultKind}
 use Rattle.loda_semantics.specs.Exec.{Outcome, value, fault, out, Calls, Library, run_text}
 use Rattle.loda_semantics.proofs.Laws.{suffices}
-use Rattle.minimiser.specs.declared.minimising.Given.{Given}
+use Rattle.minimiser.specs.declared.trying.Given.{Given}
 use Rattle.minimiser.specs.Minimum.{is_no_worse, is_good}
 use Rattle.minimiser.specs.Laws.{KeepsValues}
-use Rattle.minimiser.specs.Given.{AreGiven, is_good_for}
+use Rattle.minimiser.specs.Given.{IsGivenRun, arguments, AreGiven, is_good_at, is_good_for, IsGoodRun, AreRunsOf}
 use Rattle.seq_calls.specs.declared.outcomes.Outcome.TheVariants as told_as
 use Rattle.seq_calls.specs.Frames.{told}
 use Rattle.seq_calls.proofs.Values.{told_value}
@@ -175,3 +175,59 @@ other_value lib q x v u never = by_test (is_no_worse (value v u) (run_text lib q
     by_test : (b : Bool) → is_no_worse (value v u) (run_text lib q x u).0 ≡ b → b ≡ false
     by_test false e = refl
     by_test true e = let w = no_worse_is v u (run_text lib q x u).0 e in absurd (never w.0 (ap told w.1))
+
+-- ---- runs that are good
+
+gives_in : (lib : Library) (q : Text) (x v : ℤ) (u n : ℕ) → (run_text lib q x u).0 ≡ value v n → is_no_worse (value v u) (run_text lib q x u).0 ≡ true
+gives_in lib q x v u n o =
+    ap (is_no_worse (value v u)) o ∙ and_from (int_eq v v) (nat_le n u) ((Decides-int_eq v v).1 refl) (le-leb n u (within lib q x v n u o))
+
+pub good_run_is : (lib : Library) (q : Text) (g run : Given) → IsGoodRun lib q g run → is_good_at lib q g ≡ true
+good_run_is lib q g run is = gives_in lib q g.arg g.value g.steps run.steps is.ran
+
+pub good_told : (lib : Library) (q : Text) (g : Given) (v : ℤ) (n : ℕ) → v ≡ g.value → told (run_text lib q g.arg g.steps).0 ≡ told_as.Value v n
+    → IsGoodRun lib q g (record { arg = g.arg; value = v; steps = n })
+good_told lib q g v n same e = record {
+  arg = refl;
+  value_of = same;
+  ran = told_value (run_text lib q g.arg g.steps).0 v n e ∙ ap (λ (z : ℤ). value z n) same;
+}
+
+-- the same within more steps
+wider : (lib : Library) (q : Text) (x v : ℤ) (u limit n : ℕ) → u ≤ limit → (run_text lib q x u).0 ≡ value v n → (run_text lib q x limit).0 ≡ value v n
+wider lib q x v u limit n le e = by_run (run_text lib q x u) refl e
+  where
+    by_run : (ran : Outcome × Calls) → run_text lib q x u ≡ ran → ran.0 ≡ value v n → (run_text lib q x limit).0 ≡ value v n
+    by_run (o, c) is e =
+        let s = suffices lib q x u limit v n c (is ∙ ap (λ (r : Outcome). (r, c)) e) in
+        let used = s.0 in
+        ap (λ (r : Outcome × Calls). r.0) (s.1 (omega (arith, used)))
+
+pub runs_none : (lib : Library) (q : Text) (args : List ℤ) (limit : ℕ) → AreGiven lib (take 0 args) limit q []
+runs_none lib q args limit = record { args_are = refl; each = λ k d lt. absurd (omega arith) }
+
+pub runs_more : (lib : Library) (q : Text) (given runs : List Given) (i : ℕ) (g run : Given) → i < length given → g ≡ get_or given i g → IsGoodRun lib q g run
+    → ((args : List ℤ) (limit : ℕ) (p : Text) → AreGiven lib args limit p given → AreGiven lib (take i args) limit q runs)
+    → (args : List ℤ) (limit : ℕ) (p : Text) → AreGiven lib args limit p given → AreGiven lib (take (i + 1) args) limit q (runs ++ run ∷ [])
+runs_more lib q given runs i g run lt here is so_far args limit p are =
+    let len : length args ≡ length given = ap length are.args_are ∙ length-map given (λ (g : Given). g.arg) in
+    let at : get_or args i run.arg ≡ g.arg =
+    ap (λ (xs : List ℤ). get_or xs i run.arg) are.args_are
+    ∙ get_or-map (λ (g : Given). g.arg) given i g run.arg lt ∙ ap (λ (h : Given). h.arg) (sym here) in
+    let was : IsGivenRun lib limit p g = subst (IsGivenRun lib limit p) (sym here) (are.each i g lt) in
+    let wide : (run_text lib q g.arg limit).0 ≡ value g.value run.steps =
+    wider lib q g.arg g.value g.steps limit run.steps (within lib p g.arg g.value g.steps limit was) is.ran in
+    let ran : (run_text lib q run.arg limit).0 ≡ value run.value run.steps =
+    ap (λ (x : ℤ). (run_text lib q x limit).0) is.arg ∙ wide ∙ ap (λ (v : ℤ). value v run.steps) (sym is.value_of) in
+    given_more lib args limit q runs i run.arg run.value run.steps (omega (arith, len, lt)) (is.arg ∙ sym at) (so_far args limit p are) ran
+
+-- all of them
+pub runs_all : (lib : Library) (q : Text) (given runs : List Given) (i : ℕ) → length given ≤ i
+    → ((args : List ℤ) (limit : ℕ) (p : Text) → AreGiven lib args limit p given → AreGiven lib (take i args) limit q runs) → AreRunsOf lib q given runs
+runs_all lib q given runs i end so_far args limit p are =
+    let len : length args ≡ length given = ap length are.args_are ∙ length-map given (λ (g : Given). g.arg) in
+    subst (λ (xs : List ℤ). AreGiven lib xs limit q runs) (take_all i args (omega (arith, len, end))) (so_far args limit p are)
+
+-- those of a program that is known by them
+pub given_all : (lib : Library) (limit : ℕ) (p : Text) (given : List Given) → All (IsGivenRun lib limit p) given → AreGiven lib (arguments given) limit p given
+given_all lib limit p given each = record { args_are = refl; each = each }

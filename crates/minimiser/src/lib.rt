@@ -6,6 +6,8 @@ mod laws;
 mod minimising;
 #[cfg(test)]
 mod tests;
+mod trying;
 
 pub use laws::{cuts_take_parts, minimum_unfolds};
-pub use minimising::minimise;
+pub use minimising::{minimise, minimise_given};
+pub use trying::Given;

@@ -12,7 +12,7 @@ use crate::running::nine_values;
 use loda_syntax::Program;
 use oeis_terms::TermTable;
 use program_store::{Library, Proposal, View};
-use seq_calls::Steps;
+use seq_calls::{Evaluator, Steps};
 use std::alloc::{AllocError, Global};
 use std::sync::ledger::Ledger;
 use term_index::Index;
@@ -47,14 +47,24 @@ pub fn proposals_of<B: Library, L: Ledger>(
     ensures counted { steps.old ≤ steps.new }
 {
     let mut list = Vec::new(alloc);
-    let Some(values) = nine_values(alloc, lib, program, limit, steps)? else {
+    let mut evaluator = Evaluator::new(alloc);
+    let Some(values) = nine_values(&mut evaluator, lib, program, limit, steps)? else {
         return Ok(list);
     };
     // Each row has a name.
     let _rows = terms.rows();
     let matches = index.matches(alloc, &values)?;
     for found in &matches {
-        let made = proposal_of(alloc, lib, terms, program, found, limit, steps)?;
+        let made = proposal_of(
+            &mut evaluator,
+            alloc,
+            lib,
+            terms,
+            program,
+            found,
+            limit,
+            steps,
+        )?;
         add(&mut list, made)?;
     }
     Ok(list)

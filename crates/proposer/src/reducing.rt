@@ -6,23 +6,24 @@ ghost use Rattle.text_parts.specs.Names.{IsName};
 ghost use Rattle.program_store.specs.Store.{IsProposal};
 ghost use Rattle.proposer.specs.Short.{given_from, reduced, usable_row, proposal_of_match};
 
-use crate::running::{first_arguments, given_terms};
+use crate::running::given_terms;
 use checked_numbers::Num;
 use loda_syntax::Program;
 use matchers::compose;
-use minimiser::minimise;
+use minimiser::minimise_given;
 use oeis_terms::TermTable;
 use program_store::{Library, Proposal};
-use seq_calls::Steps;
+use seq_calls::{Evaluator, Steps};
 use std::alloc::{AllocError, Global};
 use std::sync::ledger::Ledger;
 use term_index::Match;
 
 // Fewer terms than these prove too little to minimise a program by.
-const ENOUGH: u32 = 8;
+const ENOUGH: usize = 8;
 
 // The program minimised at the indices of the leading terms that it gives, where these are enough.
 fn reduce<B: Library, L: Ledger>(
+    evaluator: &mut Evaluator,
     alloc: Global,
     lib: &B,
     program: Program,
@@ -34,12 +35,11 @@ fn reduce<B: Library, L: Ledger>(
     ensures program { IfOk result (λ made. made ≡ reduced (B.programs lib.now) limit (given_from (B.programs lib.now) limit program 0 row.now) program) }
     ensures counted { steps.old ≤ steps.new }
 {
-    let given = given_terms(alloc, lib, &program, row, limit, steps)?;
-    if given < ENOUGH {
+    let given = given_terms(evaluator, alloc, lib, &program, row, limit, steps)?;
+    if given.len() < ENOUGH {
         return Ok(program);
     }
-    let args = first_arguments(alloc, given)?;
-    minimise(alloc, lib, &program, &args, limit, steps)
+    minimise_given(evaluator, alloc, lib, program, given, limit, steps)
 }
 
 // The usable terms of a name.
@@ -56,6 +56,7 @@ fn usable(terms: &TermTable, name: u32) -> &[Num]
 
 /// The proposal that is made of a match of the program's values, where there is a composed program.
 pub fn proposal_of<B: Library, L: Ledger>(
+    evaluator: &mut Evaluator,
     alloc: Global,
     lib: &B,
     terms: &TermTable,
@@ -74,7 +75,7 @@ pub fn proposal_of<B: Library, L: Ledger>(
         return Ok(None);
     };
     let row = usable(terms, found.name);
-    let program = reduce(alloc, lib, composed, row, limit, steps)?;
+    let program = reduce(evaluator, alloc, lib, composed, row, limit, steps)?;
     // Its instructions are well formed.
     let _instrs = program.instrs();
     Ok(Some(Proposal {
