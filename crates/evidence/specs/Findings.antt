@@ -53,6 +53,10 @@ abbrev pub IsTrueFinding : Store → Terms → ℕ → Finding → Type 0
 IsTrueFinding s terms limit Nothing = Unit {0}
 IsTrueFinding s terms limit (Judged proposal answer) = IsJudged s terms limit proposal.name proposal.program answer
 
+-- there are terms and a limit for which it is so
+abbrev pub IsTrueForSome : Store → Finding → Type 0
+IsTrueForSome s f = (terms : Terms) × (limit : ℕ) × IsTrueFinding s terms limit f
+
 -- it is about this proposal, and nothing where there is none
 abbrev pub IsAbout : Option Proposal → Finding → Type 0
 IsAbout None f = f ≡ Nothing

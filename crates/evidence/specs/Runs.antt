@@ -1,4 +1,4 @@
--- The finished runs of a name at some arguments, and what its runs cost.
+-- The finished runs of a name at some arguments, and what its runs cost. Only clauses of private functions use what stands here.
 use Rattle.std.specs.Prelude.{ℕ, ◌<◌, ◌≡◌, ◌↔◌, ℤ, pos, List, length, Contains, slice_get}
 use Rattle.std.specs.declared.option.Option.TheVariants.{Some}
 use Rattle.seq_calls.specs.Values.{outcome}

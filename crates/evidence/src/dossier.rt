@@ -1,8 +1,8 @@
 //! What was found for a job, with all that publishing it needs.
 
 ghost use Rattle.std.specs.Prelude.{◌≡◌};
-ghost use Rattle.evidence.specs.Findings.{next_store};
-ghost use Rattle.evidence.specs.Dossiers.{IsDossierKept};
+ghost use Rattle.evidence.specs.Findings.{next_store, AreItsRuns, IsTrueForSome};
+ghost use Rattle.evidence.specs.Dossiers.{IsDossierKept, moved_to};
 
 use crate::finding::Finding;
 use crate::snapshot::Snapshot;
@@ -136,6 +136,25 @@ impl Dossier {
             base,
             finding,
             runs,
+            next,
+        }
+    }
+
+    /// The dossier of another snapshot, in whose store its finding is true and its finished runs are those of the finding. The
+    /// tables of that store with the proposal put in are handed in where it was accepted.
+    pub fn moved(self, snapshot: Snapshot, next: Option<Tables>) -> Dossier
+        requires finding { IsTrueForSome snapshot.store self.finding }
+        requires runs { AreItsRuns snapshot.store self.finding self.runs }
+        requires next { next ≡ next_store snapshot.store self.finding }
+        ensures { result ≡ moved_to self snapshot }
+    {
+        let base = self.base;
+        Dossier {
+            snapshot,
+            job: self.job,
+            base,
+            finding: self.finding,
+            runs: self.runs,
             next,
         }
     }

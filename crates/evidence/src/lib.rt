@@ -1,6 +1,7 @@
 //! What was found for a job in the store of a snapshot, ready to be published.
 #![tactic(auto)]
 
+mod change;
 mod comparing;
 mod dossier;
 mod finding;
@@ -13,6 +14,7 @@ mod tests;
 mod trying;
 mod weighing;
 
+pub use change::{Change, Changes};
 pub use dossier::{Dossier, Parts};
 pub use finding::Finding;
 pub use gathering::gather;

@@ -21,3 +21,5 @@ pub mod Opening
 pub mod Fitting
 -- A desk may be moved to another thread and be shared by threads.
 pub mod Crossing
+-- The accepted entries since a version.
+pub mod Changes

@@ -4,6 +4,7 @@ use Rattle.std.specs.Fmt.{decimal, signed_decimal}
 use Rattle.loda_syntax.specs.Canon.{canon}
 use Rattle.loda_semantics.specs.declared.kinds.FaultKind.TheVariants as kind
 use Rattle.loda_semantics.specs.Faults.{fault_text}
+use Rattle.loda_semantics.specs.declared.kinds.TheConstants.{OUT_OF_STEPS}
 use Rattle.program_store.specs.Store.{Store}
 use Rattle.text_parts.specs.Names.{name_text}
 use Rattle.program_store.specs.StoreText.{store_text}
@@ -22,7 +23,7 @@ got_text got.Overflow = fault_text kind.Overflow
 got_text got.DivideByZero = fault_text kind.DivideByZero
 got_text got.BadCell = fault_text kind.BadCell
 got_text got.Missing = fault_text kind.Missing
-got_text got.OutOfSteps = codes "out-of-steps"
+got_text got.OutOfSteps = OUT_OF_STEPS.now
 
 -- the demanded argument that is no longer answered, the least caller, and the two outcomes
 abbrev pub broken_text : ℤ → ℕ → ℕ → ℤ → Got → List ℕ

@@ -1,19 +1,19 @@
 //! A store, and the journal of the jobs that were decided.
 
-ghost use Rattle.std.specs.Prelude.{◌≡◌, ◌+◌, ◌<◌, ◌≤◌, ℕ, [], IfOk, IfSome, IfNone, length};
+ghost use Rattle.std.specs.Prelude.{◌≡◌, ◌+◌, ◌<◌, ◌≤◌, ℕ, [], IfOk, IfSome, IfNone, length, reverse};
 ghost use Rattle.std.specs.Arc.{arc_value};
 ghost use Rattle.oeis_terms.specs.Table.{row_of, IsBounded};
 ghost use Rattle.judge.specs.Sound.{IsUnsound};
 ghost use Rattle.evidence.specs.Findings.{next_store};
-ghost use Rattle.publish_desk.specs.History.{IsMissing, IsDoneAt, MakesVersion, Publishes};
+ghost use Rattle.publish_desk.specs.History.{IsMissing, IsDoneAt, MakesVersion, Publishes, AreMarks, version_of, changes_after};
 ghost use Rattle.publish_desk.specs.Source.{source_of};
-ghost use Rattle.publish_desk.specs.Desk.{HasJobs, decided, IsKept, IsChartered, IsFitting, IsVerdict};
+ghost use Rattle.publish_desk.specs.Desk.{HasJobs, history, decided, IsKept, IsChartered, IsFitting, IsVerdict};
 
 use crate::entry::Entry;
 use crate::origin::Origin;
 use crate::verdict::Verdict;
 use demand_table::Tables;
-use evidence::{Dossier, Finding, Parts};
+use evidence::{Change, Dossier, Finding, Parts};
 use judge::{CheckError, Unsound, check_store};
 use oeis_terms::TermTable;
 use program_store::Store;
@@ -222,6 +222,14 @@ impl Desk {
         Ok(evidence::Snapshot::of(tables, self.version, self.journal.len() as u64))
     }
 
+    /// The entries that were accepted after a version, in order.
+    pub fn changes_since(&self, alloc: Global, version: u64) -> Result<Vec<Change>, AllocError>
+        requires { version ≤ self.now.version }
+        ensures { IfOk result (λ changes. changes.items ≡ changes_after version (history self.now)) }
+    {
+        changes_at(alloc, &self.journal, &self.marks, version)
+    }
+
     /// The present tables.
     pub(crate) fn tables(&self) -> &Tables
         ensures { result.now ≡ self.now.store }
@@ -273,6 +281,26 @@ impl Desk {
     {
         &self.origin
     }
+}
+
+// The accepted entries after a version, whose places are marked.
+fn changes_at(
+    alloc: Global,
+    journal: &[Entry],
+    marks: &[u64],
+    version: u64,
+) -> Result<Vec<Change>, AllocError>
+    requires marks { AreMarks (version_of (reverse journal.now)) journal.now marks.now }
+    requires version { version ≤ version_of (reverse journal.now) }
+    ensures { IfOk result (λ changes. changes.items ≡ changes_after version (reverse journal.now)) }
+{
+    let mut changes = Vec::new(alloc);
+    let since = &marks[version as usize..];
+    for at in since {
+        let name = name_of(&journal[*at as usize].finding);
+        changes.push(Change { at: *at, name })?;
+    }
+    Ok(changes)
 }
 
 // The name that an accepted finding publishes.

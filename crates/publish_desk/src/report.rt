@@ -12,7 +12,7 @@ use crate::entry::Entry;
 use checked_numbers::{Num, write_num};
 use evidence::Finding;
 use judge::{Answer, Got};
-use loda_semantics::FaultKind;
+use loda_semantics::{FaultKind, OUT_OF_STEPS};
 use loda_syntax::print;
 use program_store::print_store;
 use std::alloc::AllocError;
@@ -35,7 +35,7 @@ fn write_got(out: &mut Vec<u8>, got: Got) -> Result<(), AllocError>
         Got::DivideByZero => write_word(out, FaultKind::DivideByZero),
         Got::BadCell => write_word(out, FaultKind::BadCell),
         Got::Missing => write_word(out, FaultKind::Missing),
-        Got::OutOfSteps => out.extend_from_slice(b"out-of-steps"),
+        Got::OutOfSteps => out.extend_from_slice(OUT_OF_STEPS.as_bytes()),
     }
 }
 

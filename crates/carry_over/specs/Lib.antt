@@ -1,0 +1,4 @@
+pub mod Stores
+pub mod Carries
+pub mod Changed
+pub mod Carrying
