@@ -1,4 +1,4 @@
--- Which findings are accepted.
+-- Which findings are accepted. Only clauses of private functions use what stands here.
 use Rattle.std.specs.Prelude.{ℕ, ◌≡◌}
 use Rattle.program_store.specs.declared.published.Proposal.{Proposal}
 use Rattle.judge.specs.declared.answer.Answer.TheVariants.{Accepted}

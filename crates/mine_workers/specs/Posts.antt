@@ -1,4 +1,4 @@
--- What a worker begins with.
+-- What a worker begins with. Only clauses of private functions use what stands here.
 use Rattle.std.specs.Prelude.{◌≡◌, ℕ, false}
 use Rattle.publish_desk.specs.Desk.{IsChartered}
 use Rattle.mine_workers.specs.declared.working.Post.{Post}

@@ -8,6 +8,8 @@ mod gate;
 mod held;
 mod run;
 mod shared;
+#[cfg(test)]
+mod shared_tests;
 mod source;
 #[cfg(test)]
 mod tests;
