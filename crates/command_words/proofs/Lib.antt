@@ -2,3 +2,5 @@
 pub mod ReadWords
 -- Which tasks the two grammars give.
 pub mod Tasks
+-- Words that ask for help are in no command's grammar.
+pub mod Apart

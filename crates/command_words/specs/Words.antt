@@ -1,5 +1,5 @@
 -- The words of the command line, as bytes.
-use Rattle.std.specs.Prelude.{ℕ, ◌≤◌, ◌-◌, ◌^◌, List, [], ◌∷◌, length, drop, codes, bytes_eq, nat_eq, nat_le, nat_lt, ◌==◌, ◌&&◌, if◌then◌else◌, Bool, ⊤, ℤ, pos, neg_ℤ, Option, Some, None}
+use Rattle.std.specs.Prelude.{ℕ, ◌≤◌, ◌-◌, ◌^◌, List, [], ◌∷◌, length, drop, codes, bytes_eq, nat_eq, nat_le, ◌==◌, ◌&&◌, if◌then◌else◌, Bool, ⊤, ℤ, pos, neg_ℤ, Option, Some, None}
 use Rattle.std.specs.List.{starts_with, filter_map, list_all, list_any}
 use Rattle.std.specs.Option.{option_map}
 use Rattle.text_parts.specs.Digits.{decimal_spelled}
@@ -8,6 +8,8 @@ use Rattle.command_words.specs.declared.request.Kind.{Kind}
 use Rattle.command_words.specs.declared.request.Kind.TheVariants as kinds
 use Rattle.command_words.specs.declared.request.Task.{Task}
 use Rattle.command_words.specs.declared.request.Task.TheVariants.{Publish, Check, Eval, Made, Mine}
+use Rattle.loda_semantics.specs.declared.limits.TheConstants.{GREATEST_STEP_LIMIT}
+use Rattle.program_store.specs.declared.candidates.TheConstants.{MOST_JOBS}
 
 -- What is asked for: the task, the paths of its files in the order of reading, and the step limit of a run. A file
 -- without a path is not read, and stands for no bytes.
@@ -19,10 +21,10 @@ pub record Request : Type 0 where
   pub limit : ℕ
 
 -- what comes next, where there is something
-infixl 10 ◌>>=◌
-abbrev pub ◌>>=◌ : {A B : Type 0} → Option A → (A → Option B) → Option B
-(Some x) >>= f = f x
-None >>= f = None
+infixl 10 ◌>>?◌
+abbrev pub ◌>>?◌ : {A B : Type 0} → Option A → (A → Option B) → Option B
+(Some x) >>? f = f x
+None >>? f = None
 
 -- ---- keys and values
 
@@ -66,11 +68,11 @@ between least greatest n = if nat_le least n && nat_le n greatest then Some n el
 
 -- a decimal number from a least to a greatest one
 abbrev pub decimal_between : ℕ → ℕ → List ℕ → Option ℕ
-decimal_between least greatest text = decimal_spelled text >>= between least greatest
+decimal_between least greatest text = decimal_spelled text >>? between least greatest
 
 -- a step limit is from 1 to 10,000,000
 abbrev pub limit_read : List ℕ → Option ℕ
-limit_read text = decimal_between 1 10000000 text
+limit_read text = decimal_between 1 GREATEST_STEP_LIMIT text
 
 -- the step limit without `steps=`
 abbrev pub default_limit : ℕ
@@ -111,7 +113,7 @@ seed_read text = decimal_between 0 greatest_seed text
 
 -- at most 1,000,000 jobs
 abbrev pub jobs_read : List ℕ → Option ℕ
-jobs_read text = decimal_between 0 1000000 text
+jobs_read text = decimal_between 0 MOST_JOBS text
 
 -- 1 to 64 workers
 abbrev pub workers_read : List ℕ → Option ℕ
@@ -134,7 +136,7 @@ IsInRange Publish = ⊤
 IsInRange Check = ⊤
 IsInRange (Eval name arg) = IsName name
 IsInRange (Made n kind) = (1 ≤ n) × (n ≤ 20000)
-IsInRange (Mine seed jobs workers) = (jobs ≤ 1000000) × (1 ≤ workers) × (workers ≤ 64)
+IsInRange (Mine seed jobs workers) = (jobs ≤ MOST_JOBS) × (1 ≤ workers) × (workers ≤ 64)
 
 -- a task that needs no workers
 abbrev pub IsPlain : Task → Type 0
@@ -154,15 +156,15 @@ IsMine (Mine seed jobs workers) = ⊤
 
 -- the path behind a key that has to stand once
 abbrev pub path_of : List ℕ → List (List ℕ) → Option (List ℕ)
-path_of key words = needed (values_of key words) >>= path_read
+path_of key words = needed (values_of key words) >>? path_read
 
 -- the path behind `store=`, or none for the empty store
 abbrev pub store_path : List (List ℕ) → Option (Option (List ℕ))
-store_path words = needed (values_of (codes "store=") words) >>= store_path_read
+store_path words = needed (values_of (codes "store=") words) >>? store_path_read
 
 -- the step limit of the words
 abbrev pub limit_of : List (List ℕ) → Option ℕ
-limit_of words = optional (values_of (codes "steps=") words) >>= limit_or_default
+limit_of words = optional (values_of (codes "steps=") words) >>? limit_or_default
 
 -- the request, where every word has one of these keys
 abbrev pub if_only : List (List ℕ) → List (List ℕ) → Option Request → Option Request
@@ -172,35 +174,35 @@ if_only keys words request = if has_only keys words then request else None
 unfoldable pub publish_of : List (List ℕ) → Option Request
 publish_of words =
     if_only (codes "terms=" ∷ codes "store=" ∷ codes "cands=" ∷ codes "steps=" ∷ []) words
-    (path_of (codes "terms=") words >>= λ terms. store_path words >>= λ store. path_of (codes "cands=") words >>= λ candidates. limit_of words >>= λ limit.
+    (path_of (codes "terms=") words >>? λ terms. store_path words >>? λ store. path_of (codes "cands=") words >>? λ candidates. limit_of words >>? λ limit.
     Some (record { task = Publish; terms = Some terms; store = store; candidates = Some candidates; limit = limit }))
 
 -- `check terms= store=`, and `steps=` if wanted
 unfoldable pub check_of : List (List ℕ) → Option Request
 check_of words =
     if_only (codes "terms=" ∷ codes "store=" ∷ codes "steps=" ∷ []) words
-    (path_of (codes "terms=") words >>= λ terms. store_path words >>= λ store. limit_of words >>= λ limit.
+    (path_of (codes "terms=") words >>? λ terms. store_path words >>? λ store. limit_of words >>? λ limit.
     Some (record { task = Check; terms = Some terms; store = store; candidates = None; limit = limit }))
 
 -- `eval store= name= arg=`, and `steps=` if wanted
 unfoldable pub eval_of : List (List ℕ) → Option Request
 eval_of words =
     if_only (codes "store=" ∷ codes "name=" ∷ codes "arg=" ∷ codes "steps=" ∷ []) words
-    (store_path words >>= λ store. (needed (values_of (codes "name=") words) >>= name_read) >>= λ name. (needed (values_of (codes "arg=") words) >>= arg_read) >>= λ arg. limit_of words >>= λ limit.
+    (store_path words >>? λ store. (needed (values_of (codes "name=") words) >>? name_read) >>? λ name. (needed (values_of (codes "arg=") words) >>? arg_read) >>? λ arg. limit_of words >>? λ limit.
     Some (record { task = Eval name arg; terms = None; store = store; candidates = None; limit = limit }))
 
 -- `made n= kind=`
 unfoldable pub made_of : List (List ℕ) → Option Request
 made_of words =
     if_only (codes "n=" ∷ codes "kind=" ∷ []) words
-    ((needed (values_of (codes "n=") words) >>= number_read) >>= λ n. (needed (values_of (codes "kind=") words) >>= kind_read) >>= λ kind.
+    ((needed (values_of (codes "n=") words) >>? number_read) >>? λ n. (needed (values_of (codes "kind=") words) >>? kind_read) >>? λ kind.
     Some (record { task = Made n kind; terms = None; store = None; candidates = None; limit = default_limit }))
 
 -- `mine terms= store= seed= jobs= workers=`, and `steps=` if wanted
 unfoldable pub mine_of : List (List ℕ) → Option Request
 mine_of words =
     if_only (codes "terms=" ∷ codes "store=" ∷ codes "seed=" ∷ codes "jobs=" ∷ codes "workers=" ∷ codes "steps=" ∷ []) words
-    (path_of (codes "terms=") words >>= λ terms. store_path words >>= λ store. (needed (values_of (codes "seed=") words) >>= seed_read) >>= λ seed. (needed (values_of (codes "jobs=") words) >>= jobs_read) >>= λ jobs. (needed (values_of (codes "workers=") words) >>= workers_read) >>= λ workers. limit_of words >>= λ limit.
+    (path_of (codes "terms=") words >>? λ terms. store_path words >>? λ store. (needed (values_of (codes "seed=") words) >>? seed_read) >>? λ seed. (needed (values_of (codes "jobs=") words) >>? jobs_read) >>? λ jobs. (needed (values_of (codes "workers=") words) >>? workers_read) >>? λ workers. limit_of words >>? λ limit.
     Some (record { task = Mine seed jobs workers; terms = Some terms; store = store; candidates = None; limit = limit }))
 
 -- The grammar of the words of a command without workers: a command, and then words `key=value` in any order.

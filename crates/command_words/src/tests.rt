@@ -1,6 +1,6 @@
-//! Which words are in the grammar of a command, and what they ask for.
+//! Which words are in the grammar of a command, and what they ask for; which ask for help.
 
-use crate::{Kind, Task, mine_request_of, request_of};
+use crate::{Command, Help, Kind, Task, help_of, mine_request_of, request_of};
 use std::alloc::{AllocError, Global};
 use std::test::Fail;
 
@@ -225,6 +225,58 @@ fn reads_words(rt: HostRuntime) -> Result<(), Fail> {
         };
         assert_eq!(rt; request.task, task);
         assert_eq!(rt; request.limit, 100_000);
+    }
+    Ok(())
+}
+
+// Words, and the help that they ask for.
+const HELP: [(&[&str], Option<Help>); 17] = [
+    (&["--help"], Some(Help::All)),
+    (&["-h"], Some(Help::All)),
+    (&["help"], Some(Help::All)),
+    (&["--version"], Some(Help::Version)),
+    (&["publish", "--help"], Some(Help::About(Command::Publish))),
+    (&["mine", "--help"], Some(Help::About(Command::Mine))),
+    (&["check", "--help"], Some(Help::About(Command::Check))),
+    (&["eval", "--help"], Some(Help::About(Command::Eval))),
+    (&["made", "--help"], Some(Help::About(Command::Made))),
+    (&[], None),
+    (&["publish"], None),
+    (&["--Help"], None),
+    (&["help", "publish"], None),
+    (&["--help", "publish"], None),
+    (&["audit", "--help"], None),
+    (&["publish", "terms=t", "--help"], None),
+    (&["publish", "terms=t", "store=-", "cands=c"], None),
+];
+
+#[test]
+fn asks_for_help(rt: HostRuntime) -> Result<(), Fail> {
+    let alloc = rt.alloc();
+    for (words, help) in HELP {
+        let words = words_of(alloc, words)?;
+        assert_eq!(rt; help_of(&words), help);
+    }
+    Ok(())
+}
+
+// What help is asked for, and how its page begins.
+const PAGES: [(Help, &str); 7] = [
+    (Help::All, "loda_mine: "),
+    (Help::About(Command::Publish), "loda_mine publish terms="),
+    (Help::About(Command::Mine), "loda_mine mine terms="),
+    (Help::About(Command::Check), "loda_mine check terms="),
+    (Help::About(Command::Eval), "loda_mine eval store="),
+    (Help::About(Command::Made), "loda_mine made n="),
+    (Help::Version, "loda_mine "),
+];
+
+#[test]
+fn has_a_page_for_each_help(rt: HostRuntime) -> Result<(), Fail> {
+    for (help, head) in PAGES {
+        let page = help.text();
+        assert!(rt; page.starts_with(head));
+        assert!(rt; page.ends_with("\n"));
     }
     Ok(())
 }

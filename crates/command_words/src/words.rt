@@ -3,25 +3,24 @@
 ghost use Rattle.std.specs.Prelude.{◌≡◌, ◌<◌, ◌≤◌, ◌^◌, map, nat_eq, string_bytes, codes, bytes_eq, IfSome};
 ghost use Rattle.std.specs.List.{starts_with, list_any};
 ghost use Rattle.std.specs.Option.{option_map};
+ghost use Rattle.loda_semantics.specs.Limits.{IsStepLimit};
 ghost use Rattle.text_parts.specs.Digits.{decimal_spelled};
 ghost use Rattle.command_words.specs.Words.{value_in, values_of, optional, needed, has_only, path_read, store_path_read, decimal_between, limit_read, negative_read, positive_read, arg_read, path_of, store_path, limit_of, number_read, kind_read, seed_read, jobs_read, workers_read, publish_of, check_of, eval_of, made_of, mine_of, request_of, mine_request_of, IsInRange, IsPlain, IsMine};
 ghost use Rattle.command_words.specs.Requests.{asked};
 
 use crate::request::{Kind, Request, Task};
 use checked_numbers::Num;
+use loda_semantics::GREATEST_STEP_LIMIT;
+use program_store::MOST_JOBS;
 use text_parts::{decimal_up_to, name_of};
 
 // The step limit without `steps=`.
 const DEFAULT_LIMIT: u64 = 100_000;
 
-const GREATEST_LIMIT: u128 = 10_000_000;
-
 // The greatest number of names that are made.
 const GREATEST_MADE: u128 = 20_000;
 
 const GREATEST_SEED: u128 = (1 << 64) - 1;
-
-const MOST_JOBS: u128 = 1_000_000;
 
 const MOST_WORKERS: u128 = 64;
 
@@ -98,9 +97,9 @@ fn decimal_between(text: &[u8], least: u128, most: u128) -> Option<u128>
 // A step limit.
 fn limit_value(text: &str) -> Option<u64>
     ensures value { result ≡ limit_read text.now }
-    ensures bounds { IfSome result (λ limit. (1 ≤ limit) × (limit ≤ 10000000)) }
+    ensures bounds { IfSome result IsStepLimit }
 {
-    let limit = decimal_between(text.as_bytes(), 1, GREATEST_LIMIT)?;
+    let limit = decimal_between(text.as_bytes(), 1, u128::from(GREATEST_STEP_LIMIT))?;
     Some(limit as u64)
 }
 
@@ -148,9 +147,9 @@ fn seed_value(text: &str) -> Option<u64>
 
 fn jobs_value(text: &str) -> Option<u64>
     ensures value { result ≡ jobs_read text.now }
-    ensures bounds { IfSome result (λ jobs. jobs ≤ 1000000) }
+    ensures bounds { IfSome result (λ jobs. jobs ≤ MOST_JOBS) }
 {
-    let jobs = decimal_between(text.as_bytes(), 0, MOST_JOBS)?;
+    let jobs = decimal_between(text.as_bytes(), 0, u128::from(MOST_JOBS))?;
     Some(jobs as u64)
 }
 
@@ -211,7 +210,7 @@ fn store_path(words: &[String]) -> Option<Option<&str>>
 
 fn limit_of(words: &[String]) -> Option<u64>
     ensures value { result ≡ limit_of (map string_bytes words.now) }
-    ensures bounds { IfSome result (λ limit. (1 ≤ limit) × (limit ≤ 10000000)) }
+    ensures bounds { IfSome result IsStepLimit }
 {
     match optional("steps=", words)? {
         None => Some(DEFAULT_LIMIT),
@@ -223,7 +222,7 @@ fn limit_of(words: &[String]) -> Option<u64>
 #[tactic(auto, unfolding(crate::specs::Words::publish_of))]
 fn publish_of(words: &[String]) -> Option<Request<'_>>
     ensures value { option_map asked result ≡ publish_of (map string_bytes words.now) }
-    ensures bounds { IfSome result (λ request. (1 ≤ request.limit) × (request.limit ≤ 10000000)) }
+    ensures bounds { IfSome result (λ request. IsStepLimit request.limit) }
     ensures range { IfSome result (λ request. IsInRange request.task) }
     ensures plain { IfSome result (λ request. IsPlain request.task) }
 {
@@ -247,7 +246,7 @@ fn publish_of(words: &[String]) -> Option<Request<'_>>
 #[tactic(auto, unfolding(crate::specs::Words::check_of))]
 fn check_of(words: &[String]) -> Option<Request<'_>>
     ensures value { option_map asked result ≡ check_of (map string_bytes words.now) }
-    ensures bounds { IfSome result (λ request. (1 ≤ request.limit) × (request.limit ≤ 10000000)) }
+    ensures bounds { IfSome result (λ request. IsStepLimit request.limit) }
     ensures range { IfSome result (λ request. IsInRange request.task) }
     ensures plain { IfSome result (λ request. IsPlain request.task) }
 {
@@ -270,7 +269,7 @@ fn check_of(words: &[String]) -> Option<Request<'_>>
 #[tactic(auto, unfolding(crate::specs::Words::eval_of))]
 fn eval_of(words: &[String]) -> Option<Request<'_>>
     ensures value { option_map asked result ≡ eval_of (map string_bytes words.now) }
-    ensures bounds { IfSome result (λ request. (1 ≤ request.limit) × (request.limit ≤ 10000000)) }
+    ensures bounds { IfSome result (λ request. IsStepLimit request.limit) }
     ensures range { IfSome result (λ request. IsInRange request.task) }
     ensures plain { IfSome result (λ request. IsPlain request.task) }
 {
@@ -294,7 +293,7 @@ fn eval_of(words: &[String]) -> Option<Request<'_>>
 #[tactic(auto, unfolding(crate::specs::Words::made_of))]
 fn made_of(words: &[String]) -> Option<Request<'_>>
     ensures value { option_map asked result ≡ made_of (map string_bytes words.now) }
-    ensures bounds { IfSome result (λ request. (1 ≤ request.limit) × (request.limit ≤ 10000000)) }
+    ensures bounds { IfSome result (λ request. IsStepLimit request.limit) }
     ensures range { IfSome result (λ request. IsInRange request.task) }
     ensures plain { IfSome result (λ request. IsPlain request.task) }
 {
@@ -316,7 +315,7 @@ fn made_of(words: &[String]) -> Option<Request<'_>>
 #[tactic(auto, unfolding(crate::specs::Words::mine_of))]
 fn mine_of(words: &[String]) -> Option<Request<'_>>
     ensures value { option_map asked result ≡ mine_of (map string_bytes words.now) }
-    ensures bounds { IfSome result (λ request. (1 ≤ request.limit) × (request.limit ≤ 10000000)) }
+    ensures bounds { IfSome result (λ request. IsStepLimit request.limit) }
     ensures range { IfSome result (λ request. IsInRange request.task) }
     ensures mine { IfSome result (λ request. IsMine request.task) }
 {
@@ -349,7 +348,7 @@ fn mine_of(words: &[String]) -> Option<Request<'_>>
 #[tactic(auto, unfolding(crate::specs::Words::request_of))]
 pub fn request_of(words: &[String]) -> Option<Request<'_>>
     ensures value { option_map asked result ≡ request_of (map string_bytes words.now) }
-    ensures bounds { IfSome result (λ request. (1 ≤ request.limit) × (request.limit ≤ 10000000)) }
+    ensures bounds { IfSome result (λ request. IsStepLimit request.limit) }
     ensures range { IfSome result (λ request. IsInRange request.task) }
     ensures plain { IfSome result (λ request. IsPlain request.task) }
 {
@@ -375,7 +374,7 @@ pub fn request_of(words: &[String]) -> Option<Request<'_>>
 #[tactic(auto, unfolding(crate::specs::Words::mine_request_of))]
 pub fn mine_request_of(words: &[String]) -> Option<Request<'_>>
     ensures value { option_map asked result ≡ mine_request_of (map string_bytes words.now) }
-    ensures bounds { IfSome result (λ request. (1 ≤ request.limit) × (request.limit ≤ 10000000)) }
+    ensures bounds { IfSome result (λ request. IsStepLimit request.limit) }
     ensures range { IfSome result (λ request. IsInRange request.task) }
     ensures mine { IfSome result (λ request. IsMine request.task) }
 {

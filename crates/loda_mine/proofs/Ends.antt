@@ -18,7 +18,8 @@ use Rattle.loda_mine.specs.declared.status.Status.TheVariants.{Done, Usage, Read
 use Rattle.command_words.specs.declared.request.Task.{Task}
 use Rattle.command_words.specs.declared.request.Task.TheVariants.{Publish, Check, Eval, Made, Mine}
 use Rattle.command_words.specs.Words.{Request}
-use Rattle.loda_mine.specs.Answer.{Found, ◌>>=◌, bytes_of, table_in, parsed_in, found_terms, found_store, found_candidates, contents_of, Refuses, IsAnswer}
+use Rattle.text_parts.specs.Results.{◌>>=◌}
+use Rattle.loda_mine.specs.Answer.{Found, bytes_of, table_in, parsed_in, found_terms, found_store, found_candidates, contents_of, Refuses, IsAnswer}
 use Rattle.loda_mine.specs.Run.{IsNothing, FindsAt, Finds, Ends, RunsAs, FileFailed}
 
 -- ---- the errors of a result

@@ -19,7 +19,8 @@ use Rattle.command_words.specs.declared.request.Task.TheVariants.{Publish, Check
 use Rattle.command_words.specs.Words.{Request, IsMine}
 use Rattle.loda_mine.proofs.Opened.{nothing_checked}
 use Rattle.loda_mine.proofs.Ends.{May, errs_is, contents_may, refuses_may}
-use Rattle.loda_mine.specs.Answer.{Found, ◌>>=◌, bytes_of, found_terms, found_store, found_candidates, contents_of, Writes, Refuses, IsAnswer}
+use Rattle.text_parts.specs.Results.{◌>>=◌}
+use Rattle.loda_mine.specs.Answer.{Found, bytes_of, found_terms, found_store, found_candidates, contents_of, Writes, Refuses, IsAnswer}
 use Rattle.loda_mine.specs.Run.{IsNothing, FindsAt, Finds, Ends, EndsAs, RunsAs, Files, TellsAt, Tells, all_of, StopsAt, EndsWith, Exactly, IsReady, NothingFails, Opens, WritesOutput, Headline, MineHeadline}
 
 -- ---- answers by what was found, and by what is told

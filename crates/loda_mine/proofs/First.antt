@@ -18,7 +18,8 @@ use Rattle.loda_mine.specs.declared.status.Status.TheVariants.{ReadFault, BadSto
 use Rattle.command_words.specs.declared.request.Task.{Task}
 use Rattle.command_words.specs.declared.request.Task.TheVariants.{Publish, Check, Eval, Made, Mine}
 use Rattle.command_words.specs.Words.{Request}
-use Rattle.loda_mine.specs.Answer.{Found, ◌>>=◌, bytes_of, table_in, parsed_in, found_terms, found_store, found_candidates, contents_of, Refuses, IsAnswer}
+use Rattle.text_parts.specs.Results.{◌>>=◌}
+use Rattle.loda_mine.specs.Answer.{Found, bytes_of, table_in, parsed_in, found_terms, found_store, found_candidates, contents_of, Refuses, IsAnswer}
 use Rattle.loda_mine.proofs.Ends.{Errs, errs_then}
 use Rattle.loda_mine.specs.Run.{Finds, Ends, EndsAs, RunsAs, FileFailed, path_at, Files, TellsAt, EndsWith, error_in, stop_of, TellsTo, IsFirstStop, EndsSoOr, Precedes}
 use Rattle.loda_mine.proofs.Exact.{Meets, meets_then, told_at, stopped}

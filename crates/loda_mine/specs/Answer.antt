@@ -6,6 +6,7 @@ use Rattle.std.specs.Global.{Vec}
 use Rattle.loda_io.specs.declared.ReadError.{ReadError}
 use Rattle.loda_io.specs.declared.ReadError.TheVariants as errors
 use Rattle.loda_semantics.specs.Exec.{run_name}
+use Rattle.text_parts.specs.Results.{◌>>=◌}
 use Rattle.oeis_terms.specs.Stripped as terms_file
 use Rattle.oeis_terms.specs.Table.{Table, row_of}
 use Rattle.program_store.specs.declared.errors.StoreKind.{StoreKind}
@@ -45,12 +46,6 @@ pub record Found : Type 0 where
   pub terms : Result (List ℕ) ReadError
   pub store : Result (List ℕ) ReadError
   pub candidates : Result (List ℕ) ReadError
-
--- what comes next, unless there is a status
-infixl 10 ◌>>=◌
-abbrev pub ◌>>=◌ : {A B : Type 0} → Result A Status → (A → Result B Status) → Result B Status
-(Ok x) >>= f = f x
-(Err e) >>= f = Err e
 
 -- ---- the files
 

@@ -1,4 +1,4 @@
--- The number that the program ends with.
+-- The number that the program ends with. Only clauses of private functions use what stands here.
 use Rattle.std.specs.Prelude.{ℕ}
 use Rattle.loda_mine.specs.declared.status.Status.{Status}
 use Rattle.loda_mine.specs.declared.status.Status.TheVariants as statuses

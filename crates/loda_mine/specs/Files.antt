@@ -1,4 +1,4 @@
--- What the readers' errors are as statuses.
+-- What the readers' errors are as statuses. Only clauses of private functions use what stands here.
 use Rattle.std.specs.Prelude.{ℕ, List, [], Result}
 use Rattle.std.specs.declared.option.Option.{Option}
 use Rattle.std.specs.declared.option.Option.TheVariants.{Some, None}

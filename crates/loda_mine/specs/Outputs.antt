@@ -3,6 +3,7 @@ use Rattle.std.specs.Prelude.{ℕ, Bool, true, false, List, ◌++◌, codes, len
 use Rattle.std.specs.Fmt.{decimal, signed_decimal}
 use Rattle.std.specs.FinMap as map
 use Rattle.loda_semantics.specs.Faults.{fault_text}
+use Rattle.loda_semantics.specs.declared.kinds.TheConstants.{OUT_OF_STEPS}
 use Rattle.seq_calls.specs.declared.outcomes.Outcome.{Outcome}
 use Rattle.seq_calls.specs.declared.outcomes.Outcome.TheVariants.{Value, Fault, OutOfSteps}
 use Rattle.judge.specs.declared.answer.Answer.{Answer}
@@ -20,7 +21,7 @@ steps_text steps = codes " steps " ++ decimal steps ++ codes "\n"
 unfoldable pub outcome_text : Outcome → List ℕ
 outcome_text (Value value steps) = codes "value " ++ signed_decimal value ++ steps_text steps
 outcome_text (Fault kind steps) = codes "fault " ++ fault_text kind ++ steps_text steps
-outcome_text OutOfSteps = codes "out-of-steps\n"
+outcome_text OutOfSteps = OUT_OF_STEPS.now ++ codes "\n"
 
 -- a line of a word and a count
 abbrev pub count_line : List ℕ → ℕ → List ℕ

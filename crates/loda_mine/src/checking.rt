@@ -13,6 +13,7 @@ use crate::status::Status;
 use checked_numbers::{Num, write_num};
 use command_words::Task;
 use judge::check_store;
+use loda_semantics::{GREATEST_STEP_LIMIT, OUT_OF_STEPS};
 use program_store::{Store, View};
 use seq_calls::{Outcome, outcome_alone};
 use std::alloc::{AllocError, Global};
@@ -39,7 +40,7 @@ fn write_sound(out: &mut Vec<u8>, contents: &Contents) -> Result<(), AllocError>
 
 /// Whether the store is sound, and how much there is of what.
 pub fn check(alloc: Global, contents: &Contents, limit: u64) -> Result<Vec<u8>, Status>
-    requires limit { limit ≤ 10000000 }
+    requires limit { limit ≤ GREATEST_STEP_LIMIT }
     requires bounded { IsBounded contents.now.terms }
     ensures { IsOutput Task.Check limit contents.now (bytes_in result) }
 {
@@ -65,7 +66,10 @@ fn write_outcome(out: &mut Vec<u8>, outcome: Outcome) -> Result<(), AllocError>
             out.extend_from_slice(kind.word().as_bytes())?;
             write_line(out, b" steps ", steps)
         }
-        Outcome::OutOfSteps => out.extend_from_slice(b"out-of-steps\n"),
+        Outcome::OutOfSteps => {
+            out.extend_from_slice(OUT_OF_STEPS.as_bytes())?;
+            out.extend_from_slice(b"\n")
+        }
     }
 }
 

@@ -15,12 +15,16 @@ mod status;
 mod tests;
 mod text;
 
+use command_words::{Help, help_of};
 use ending::tell;
-use loda_io::{FileShelf, StdSink};
+use loda_io::{FileShelf, Shelf, Sink, StdSink, write_all};
 use mine_workers::OpenGate;
 use run::{run_mine, run_plain};
 use status::Status;
+use std::alloc::Global;
 use std::process::ExitCode;
+use std::sync::Wait;
+use std::thread::Threads;
 use std::{env, io};
 
 // The words after the program's own name. It is an error where one is no text, or memory ran out.
@@ -37,19 +41,36 @@ fn is_mine(words: &[String]) -> bool {
     }
 }
 
+// Writes the page of help that the words ask for.
+fn show<K: Sink>(help: Help, sink: &mut K) -> Status {
+    match write_all(sink, help.text().as_bytes()) {
+        Ok(()) => Status::Done,
+        Err(_) => Status::WriteFault,
+    }
+}
+
+// Shows the help that the words ask for, or makes the top call of their command.
+fn answer<F: Shelf, K: Sink, R: Threads + Wait + Sync>(
+    rt: &R,
+    alloc: Global,
+    words: &[String],
+    shelf: &mut F,
+    sink: &mut K,
+) -> Status {
+    if let Some(help) = help_of(words) {
+        return show(help, sink);
+    }
+    if is_mine(words) {
+        return run_mine(rt, alloc, words, shelf, sink, &OpenGate);
+    }
+    run_plain(alloc, words, shelf, sink)
+}
+
 fn main(rt: HostRuntime) -> ExitCode {
     let mut shelf = FileShelf::new(rt);
     let mut sink = StdSink::new(rt);
     let status = match arguments(&rt) {
-        Ok(words) if is_mine(&words) => run_mine(
-            &rt,
-            rt.alloc(),
-            &words,
-            &mut shelf,
-            &mut sink,
-            &OpenGate,
-        ),
-        Ok(words) => run_plain(rt.alloc(), &words, &mut shelf, &mut sink),
+        Ok(words) => answer(&rt, rt.alloc(), &words, &mut shelf, &mut sink),
         Err(error) if error.kind() == io::ErrorKind::OutOfMemory => Status::Memory,
         Err(_) => Status::Usage,
     };

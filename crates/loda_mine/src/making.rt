@@ -1,6 +1,7 @@
 //! `made`: made input, and a summary of publishing it.
 
 ghost use Rattle.std.specs.Prelude.{◌≡◌, ◌≤◌, ◌++◌, length, IfOk, OnOk};
+ghost use Rattle.loda_semantics.specs.Limits.{IsStepLimit};
 ghost use Rattle.oeis_terms.specs.Table.{IsBounded};
 ghost use Rattle.loda_mine.specs.declared.files.Contents.{Contents as files};
 ghost use Rattle.loda_mine.specs.Outputs.{accepts, gains_nothing, is_answered, count_answered, summary_text};
@@ -93,7 +94,7 @@ fn contents_made(alloc: Global, n: u32) -> Result<Contents, AllocError>
 // The summary of publishing the made candidates against the made terms, from the empty store.
 fn run(alloc: Global, n: u32, limit: u64) -> Result<Vec<u8>, Status>
     requires number { n ≤ 20000 }
-    requires limit { (1 ≤ limit) × (limit ≤ 10000000) }
+    requires limit { IsStepLimit limit }
     ensures { (inside : files) → IsOutput (Task.Made n Kind.Run) limit inside (bytes_in result) }
 {
     let contents = contents_made(alloc, n)?;
@@ -107,7 +108,7 @@ fn run(alloc: Global, n: u32, limit: u64) -> Result<Vec<u8>, Status>
 /// Input of so many names, or a summary of publishing it.
 pub fn make(alloc: Global, n: u32, kind: Kind, limit: u64) -> Result<Vec<u8>, Status>
     requires number { n ≤ 20000 }
-    requires limit { (1 ≤ limit) × (limit ≤ 10000000) }
+    requires limit { IsStepLimit limit }
     ensures { (inside : files) → IsOutput (Task.Made n kind) limit inside (bytes_in result) }
 {
     match kind {

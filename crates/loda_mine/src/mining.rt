@@ -1,6 +1,7 @@
 //! `mine`: the jobs of a seed are decided by workers.
 
 ghost use Rattle.std.specs.Prelude.{◌≡◌, ◌≤◌, ℕ, [], IfOk, Err};
+ghost use Rattle.loda_semantics.specs.Limits.{IsStepLimit};
 ghost use Rattle.oeis_terms.specs.Table.{IsBounded};
 ghost use Rattle.publish_desk.specs.Desk.{IsKept};
 ghost use Rattle.publish_desk.specs.declared.charter.Source.TheVariants.{Seeded};
@@ -12,6 +13,7 @@ use crate::publishing::report_of;
 use crate::status::Status;
 use command_words::Task;
 use mine_workers::{Gate, run_jobs};
+use program_store::MOST_JOBS;
 use publish_desk::{Desk, Origin};
 use std::alloc::Global;
 use std::sync::{Arc, Wait};
@@ -25,8 +27,8 @@ fn open_desk(
     seed: u64,
     jobs: u64,
 ) -> Result<Desk, Status>
-    requires limit { (1 ≤ limit) × (limit ≤ 10000000) }
-    requires jobs { jobs ≤ 1000000 }
+    requires limit { IsStepLimit limit }
+    requires jobs { jobs ≤ MOST_JOBS }
     requires bounded { IsBounded contents.terms }
     ensures charter { IfOk result (λ d. d.charter ≡ record { opening = contents.store; terms = contents.terms; limit = limit; source = Seeded seed; jobs = jobs }) }
     ensures journal { IfOk result (λ d. d.journal ≡ []) }
@@ -50,8 +52,8 @@ fn mined<G: Gate, R: Threads + Wait + Sync>(
     workers: u32,
     gate: &G,
 ) -> Result<Desk, Status>
-    requires limit { (1 ≤ limit) × (limit ≤ 10000000) }
-    requires jobs { jobs ≤ 1000000 }
+    requires limit { IsStepLimit limit }
+    requires jobs { jobs ≤ MOST_JOBS }
     requires workers { (1 ≤ workers) × (workers ≤ 64) }
     requires bounded { IsBounded contents.terms }
     ensures mined { IfOk result (IsMined contents limit seed jobs workers) }
@@ -73,8 +75,8 @@ pub fn mine<G: Gate, R: Threads + Wait + Sync>(
     workers: u32,
     gate: &G,
 ) -> Result<Vec<u8>, Status>
-    requires limit { (1 ≤ limit) × (limit ≤ 10000000) }
-    requires jobs { jobs ≤ 1000000 }
+    requires limit { IsStepLimit limit }
+    requires jobs { jobs ≤ MOST_JOBS }
     requires workers { (1 ≤ workers) × (workers ≤ 64) }
     requires bounded { IsBounded contents.terms }
     ensures { IsOutput (Task.Mine seed jobs workers) limit contents (bytes_in result) }

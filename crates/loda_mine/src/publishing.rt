@@ -1,6 +1,7 @@
 //! `publish`: every candidate is decided, in order.
 
-ghost use Rattle.std.specs.Prelude.{◌≡◌, ◌≤◌, [], length, IfOk, Err};
+ghost use Rattle.std.specs.Prelude.{◌≡◌, [], length, IfOk, Err};
+ghost use Rattle.loda_semantics.specs.Limits.{IsStepLimit};
 ghost use Rattle.oeis_terms.specs.Table.{IsBounded};
 ghost use Rattle.publish_desk.specs.Desk.{IsKept};
 ghost use Rattle.publish_desk.specs.Report.{report};
@@ -18,7 +19,7 @@ use std::sync::Arc;
 
 // A desk on what stands in the files.
 fn open_desk(alloc: Global, contents: Contents, limit: u64) -> Result<Desk, Status>
-    requires limit { (1 ≤ limit) × (limit ≤ 10000000) }
+    requires limit { IsStepLimit limit }
     requires bounded { IsBounded contents.terms }
     ensures charter { IfOk result (λ d. d.charter ≡ record { opening = contents.store; terms = contents.terms; limit = limit; source = Listed contents.candidates; jobs = length contents.candidates }) }
     ensures journal { IfOk result (λ d. d.journal ≡ []) }
@@ -46,7 +47,7 @@ pub fn report_of(alloc: Global, desk: &Desk) -> Result<Vec<u8>, AllocError>
 
 /// A desk that was opened on what stands in the files, and has decided every candidate, in order.
 pub fn decided(alloc: Global, contents: Contents, limit: u64) -> Result<Desk, Status>
-    requires limit { (1 ≤ limit) × (limit ≤ 10000000) }
+    requires limit { IsStepLimit limit }
     requires bounded { IsBounded contents.terms }
     ensures decided { IfOk result (IsDecided contents limit) }
     ensures refused { (s : status) → result ≡ Err s → Refuses Task.Publish limit contents s }
@@ -59,7 +60,7 @@ pub fn decided(alloc: Global, contents: Contents, limit: u64) -> Result<Desk, St
 
 /// The report of the one journal that takes the candidates in order, each with the version at its place as its base.
 pub fn publish(alloc: Global, contents: Contents, limit: u64) -> Result<Vec<u8>, Status>
-    requires limit { (1 ≤ limit) × (limit ≤ 10000000) }
+    requires limit { IsStepLimit limit }
     requires bounded { IsBounded contents.terms }
     ensures { IsOutput Task.Publish limit contents (bytes_in result) }
 {

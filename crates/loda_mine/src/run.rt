@@ -1,6 +1,7 @@
 //! A run of the program over any shelf and any sink.
 
-ghost use Rattle.std.specs.Prelude.{◌≡◌, ◌≢◌, ◌↔◌, ◌⊎◌, ◌≤◌, ℕ, List, Some, None, map, string_bytes};
+ghost use Rattle.std.specs.Prelude.{◌≡◌, ◌≢◌, ◌↔◌, ◌⊎◌, ℕ, List, Some, None, map, string_bytes};
+ghost use Rattle.loda_semantics.specs.Limits.{IsStepLimit};
 ghost use Rattle.loda_io.specs.Shelf.{OnlyRead};
 ghost use Rattle.loda_io.specs.Sink.{WriteFailed};
 ghost use Rattle.oeis_terms.specs.Table.{IsBounded};
@@ -29,7 +30,7 @@ use std::thread::Threads;
 fn output_of(alloc: Global, task: Task, limit: u64, contents: Contents) -> Result<Vec<u8>, Status>
     requires plain { IsPlain task }
     requires range { IsInRange task }
-    requires limit { (1 ≤ limit) × (limit ≤ 10000000) }
+    requires limit { IsStepLimit limit }
     requires bounded { IsBounded contents.terms }
     ensures { IsOutput task limit contents (bytes_in result) }
 {
@@ -53,7 +54,7 @@ fn mine_output_of<G: Gate, R: Threads + Wait + Sync>(
 ) -> Result<Vec<u8>, Status>
     requires mine { IsMine task }
     requires range { IsInRange task }
-    requires limit { (1 ≤ limit) × (limit ≤ 10000000) }
+    requires limit { IsStepLimit limit }
     requires bounded { IsBounded contents.terms }
     ensures { IsOutput task limit contents (bytes_in result) }
 {
@@ -71,7 +72,7 @@ fn mine_output_of<G: Gate, R: Threads + Wait + Sync>(
 fn prepare<F: Shelf>(alloc: Global, shelf: &mut F, request: &Request<'_>) -> Result<Vec<u8>, Status>
     requires plain { IsPlain request.now.task }
     requires range { IsInRange request.now.task }
-    requires limit { (1 ≤ request.now.limit) × (request.now.limit ≤ 10000000) }
+    requires limit { IsStepLimit request.now.limit }
     ensures kept { OnlyRead (F.known shelf.old) (F.known shelf.new) }
     ensures answer { (found : Found) × Finds (F.known shelf.old) (F.known shelf.new) (asked request.now) found
         × IsAnswer (asked request.now) (contents_of found) (bytes_in result) }
@@ -90,7 +91,7 @@ fn prepare_mine<F: Shelf, G: Gate, R: Threads + Wait + Sync>(
 ) -> Result<Vec<u8>, Status>
     requires mine { IsMine request.now.task }
     requires range { IsInRange request.now.task }
-    requires limit { (1 ≤ request.now.limit) × (request.now.limit ≤ 10000000) }
+    requires limit { IsStepLimit request.now.limit }
     ensures kept { OnlyRead (F.known shelf.old) (F.known shelf.new) }
     ensures answer { (found : Found) × Finds (F.known shelf.old) (F.known shelf.new) (asked request.now) found
         × IsAnswer (asked request.now) (contents_of found) (bytes_in result) }

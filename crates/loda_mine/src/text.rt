@@ -1,7 +1,7 @@
 //! Why a store is not sound, in words.
 
 use judge::{Got, Unsound};
-use loda_semantics::FaultKind;
+use loda_semantics::{FaultKind, OUT_OF_STEPS};
 use std::fmt;
 
 // What was got in the place of a term, in words.
@@ -19,7 +19,7 @@ impl fmt::Display for GotText {
             Got::DivideByZero => f.write_str(FaultKind::DivideByZero.word()),
             Got::BadCell => f.write_str(FaultKind::BadCell.word()),
             Got::Missing => f.write_str(FaultKind::Missing.word()),
-            Got::OutOfSteps => f.write_str("out-of-steps"),
+            Got::OutOfSteps => f.write_str(OUT_OF_STEPS),
         }
     }
 }
