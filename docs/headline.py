@@ -27,7 +27,7 @@ PARTS = [
     ("The terms file", ["oeis_terms/Stripped", "oeis_terms/Line", "oeis_terms/Items", "oeis_terms/Numbers", "oeis_terms/Cut", "oeis_terms/Table"]),
     ("The store file and the candidates file", ["program_store/Files", "program_store/Headers", "program_store/Sections", "program_store/StoreText"]),
     ("Program text", ["loda_syntax/Reading", "loda_syntax/Grammar", "loda_syntax/Lines", "loda_syntax/Words", "loda_syntax/Canon"]),
-    ("Parts of lines", ["text_parts/Blanks", "text_parts/Digits", "text_parts/Names"]),
+    ("Parts of lines", ["text_parts/Blanks", "text_parts/Digits", "text_parts/Names", "text_parts/Results"]),
     ("What a seeded job proposes", ["proposer/Proposed", "proposer/Short", "word_stream/Jobs", "word_stream/Words", "generator/Generating", "generator/Arithmetic", "mutator/Mutating", "term_index/Matching", "term_index/Lines", "matchers/Composing", "compositions/Composed", "compositions/Cells", "minimiser/Minimum", "minimiser/Cuts"]),
     ("The words of the command line", ["command_words/Words"]),
     ("Files and outputs", ["loda_io/Shelf", "loda_io/Sink"]),
