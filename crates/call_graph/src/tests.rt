@@ -42,7 +42,7 @@ const BETWEEN: &str =
 const LATER: &str =
     "= A000001 8\nseq $0,5\n= A000003 8\nseq $0,3\n= A000005 8\nseq $0,6\n= A000006 8\nseq $0,7\n= A000007 8\nseq $0,5\nseq $0,6\n";
 
-const ROWS: [Row; 12] = [
+static ROWS: [Row; 12] = [
     Row {
         text: SQUARE,
         cycle: None,

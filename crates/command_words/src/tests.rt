@@ -13,7 +13,7 @@ fn words_of(alloc: Global, words: &[&str]) -> Result<Vec<String>, AllocError> {
 }
 
 // Words that are in no command's grammar.
-const NO_WORDS: [&[&str]; 25] = [
+static NO_WORDS: [&[&str]; 25] = [
     &[],
     &[
         "mine",
@@ -56,7 +56,7 @@ const NO_WORDS: [&[&str]; 25] = [
 #[test]
 fn refuses_words(rt: HostRuntime) -> Result<(), Fail> {
     let alloc = rt.alloc();
-    for words in NO_WORDS {
+    for &words in &NO_WORDS {
         let words = words_of(alloc, words)?;
         assert!(rt; request_of(&words).is_none());
     }
@@ -64,7 +64,7 @@ fn refuses_words(rt: HostRuntime) -> Result<(), Fail> {
 }
 
 // Words that are not in the grammar of `mine`.
-const NO_WORDS_OF_MINE: [&[&str]; 14] = [
+static NO_WORDS_OF_MINE: [&[&str]; 14] = [
     &[],
     &["mine"],
     &["publish", "terms=t", "store=-", "cands=c"],
@@ -142,7 +142,7 @@ const NO_WORDS_OF_MINE: [&[&str]; 14] = [
 #[test]
 fn refuses_words_of_mine(rt: HostRuntime) -> Result<(), Fail> {
     let alloc = rt.alloc();
-    for words in NO_WORDS_OF_MINE {
+    for &words in &NO_WORDS_OF_MINE {
         let words = words_of(alloc, words)?;
         assert!(rt; mine_request_of(&words).is_none());
     }
@@ -230,7 +230,7 @@ fn reads_words(rt: HostRuntime) -> Result<(), Fail> {
 }
 
 // Words, and the help that they ask for.
-const HELP: [(&[&str], Option<Help>); 17] = [
+static HELP: [(&[&str], Option<Help>); 17] = [
     (&["--help"], Some(Help::All)),
     (&["-h"], Some(Help::All)),
     (&["help"], Some(Help::All)),
@@ -253,7 +253,7 @@ const HELP: [(&[&str], Option<Help>); 17] = [
 #[test]
 fn asks_for_help(rt: HostRuntime) -> Result<(), Fail> {
     let alloc = rt.alloc();
-    for (words, help) in HELP {
+    for &(words, help) in &HELP {
         let words = words_of(alloc, words)?;
         assert_eq!(rt; help_of(&words), help);
     }
@@ -261,7 +261,7 @@ fn asks_for_help(rt: HostRuntime) -> Result<(), Fail> {
 }
 
 // What help is asked for, and how its page begins.
-const PAGES: [(Help, &str); 7] = [
+static PAGES: [(Help, &str); 7] = [
     (Help::All, "loda_mine: "),
     (Help::About(Command::Publish), "loda_mine publish terms="),
     (Help::About(Command::Mine), "loda_mine mine terms="),
@@ -273,7 +273,7 @@ const PAGES: [(Help, &str); 7] = [
 
 #[test]
 fn has_a_page_for_each_help(rt: HostRuntime) -> Result<(), Fail> {
-    for (help, head) in PAGES {
+    for &(help, head) in &PAGES {
         let page = help.text();
         assert!(rt; page.starts_with(head));
         assert!(rt; page.ends_with("\n"));

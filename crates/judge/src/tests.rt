@@ -74,7 +74,7 @@ const NATURALS: &str = "A000290 ,0,1,4,9,16,25,36,49,64,81,\nA001477 ,0,1,2,3,4,
 const CHAIN: &str =
     "A000290 ,0,1,4,9,16,25,36,49,64,81,\nA001477 ,0,1,2,3,4,5,6,7,\nA016742 ,0,4,16,36,64,100,144,196,\nA016802 ,0,16,64,144,256,400,576,784,\n";
 
-const ROWS: [Row; 7] = [
+static ROWS: [Row; 7] = [
     // a square of what is at most nine, longer and dearer squares, and cycles
     Row {
         terms: BOTH,

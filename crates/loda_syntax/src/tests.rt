@@ -8,7 +8,7 @@ use crate::{Instr, Operand, ParseError, Program, SyntaxKind, Verb, parse, print}
 use std::alloc::{AllocError, Global};
 use std::test::Fail;
 
-const FAULTS: [(&str, u64, SyntaxKind); 61] = [
+static FAULTS: [(&str, u64, SyntaxKind); 61] = [
     // one line as a program
     ("foo $0,1", 1, UnknownOp),
     ("cmp $0,1", 1, Unsupported),
@@ -98,14 +98,14 @@ const FAULTS: [(&str, u64, SyntaxKind); 61] = [
 
 #[test]
 fn refused_lines(rt: HostRuntime) -> Result<(), Fail> {
-    for (text, line, kind) in FAULTS {
+    for &(text, line, kind) in &FAULTS {
         let fault = parse(rt.alloc(), text.as_bytes()).err();
         assert_eq!(rt; fault, Some(ParseError::Syntax { line, kind }), "{text}");
     }
     Ok(())
 }
 
-const TEXTS: [(&str, &str); 18] = [
+static TEXTS: [(&str, &str); 18] = [
     ("", ""),
     ("\n \t\r\n;", ""),
     ("  lpb $0,1 ; x\n lpe", "lpb $0\nlpe\n"),
@@ -152,7 +152,7 @@ const TEXTS: [(&str, &str); 18] = [
 
 #[test]
 fn canonical_texts(rt: HostRuntime) -> Result<(), Fail> {
-    for (text, want) in TEXTS {
+    for &(text, want) in &TEXTS {
         let program = parse(rt.alloc(), text.as_bytes())?;
         let mut out = Vec::new(rt.alloc());
         print(&program, &mut out)?;
@@ -174,24 +174,53 @@ fn repeated(alloc: Global, line: &str, count: usize) -> Result<String, AllocErro
     Ok(text)
 }
 
-fn fault(line: u64, kind: SyntaxKind) -> Option<ParseError> {
-    Some(ParseError::Syntax { line, kind })
+// A text: what stands first, a line that is repeated, and what stands last.
+fn long(
+    alloc: Global,
+    first: &str,
+    line: &str,
+    count: usize,
+    last: &str,
+) -> Result<String, AllocError> {
+    let mut text = String::from_str(alloc, first)?;
+    text.push_str(repeated(alloc, line, count)?.as_str())?;
+    text.push_str(last)?;
+    Ok(text)
 }
+
+// The parts of such texts, and how many instructions they have, or their fault.
+static LONG: [(&str, &str, usize, &str, Result<usize, (u64, SyntaxKind)>); 6] = [
+    ("", "; x\nadd $0,1\n", 1000, "", Ok(1000)),
+    (
+        "",
+        "; x\nadd $0,1\n",
+        1000,
+        "\nadd $0,1\nfoo",
+        Err((2002, TooLong)),
+    ),
+    // an end without a loop comes first
+    ("", "add $0,1\n", 1000, "lpe", Err((1001, LoopClose))),
+    ("", "lpb $0\n", 500, "", Err((500, LoopOpen))),
+    // a line of 64 KiB
+    ("", " ", 65_527, "add $0,1;\nx", Err((2, UnknownOp))),
+    ("mov $0,-", "0", 65_000, "1", Ok(1)),
+];
 
 #[test]
 fn long_texts(rt: HostRuntime) -> Result<(), Fail> {
+    for &(first, line, count, last, want) in &LONG {
+        let text = long(rt.alloc(), first, line, count, last)?;
+        let got = parse(rt.alloc(), text.as_bytes()).map(|program| program.instrs().len());
+        let want = want.map_err(|(line, kind)| ParseError::Syntax { line, kind });
+        assert_eq!(rt; got, want, "{first}{line}");
+    }
+    Ok(())
+}
+
+#[test]
+fn nested_loops(rt: HostRuntime) -> Result<(), Fail> {
     let alloc = rt.alloc();
-    let mut text = repeated(alloc, "; x\nadd $0,1\n", 1000)?;
-    assert_eq!(rt; parse(alloc, text.as_bytes())?.instrs().len(), 1000);
-    text.push_str("\nadd $0,1\nfoo")?;
-    assert_eq!(rt; parse(alloc, text.as_bytes()).err(), fault(2002, TooLong));
-    // an end without a loop comes first
-    let mut text = repeated(alloc, "add $0,1\n", 1000)?;
-    text.push_str("lpe")?;
-    assert_eq!(rt; parse(alloc, text.as_bytes()).err(), fault(1001, LoopClose));
-    // nested loops
     let mut text = repeated(alloc, "lpb $0\n", 500)?;
-    assert_eq!(rt; parse(alloc, text.as_bytes()).err(), fault(500, LoopOpen));
     text.push_str(repeated(alloc, "lpe\n", 500)?.as_str())?;
     let program = parse(alloc, text.as_bytes())?;
     let mut out = Vec::new(alloc);
@@ -201,71 +230,65 @@ fn long_texts(rt: HostRuntime) -> Result<(), Fail> {
     Ok(())
 }
 
+// Each byte as a line.
 #[test]
-fn any_bytes(rt: HostRuntime) -> Result<(), Fail> {
-    let alloc = rt.alloc();
-    // a line of 64 KiB
-    let mut text = repeated(alloc, " ", 65_527)?;
-    text.push_str("add $0,1;\nx")?;
-    assert_eq!(rt; parse(alloc, text.as_bytes()).err(), fault(2, UnknownOp));
-    let mut text = repeated(alloc, "0", 65_000)?;
-    text.push_str("1")?;
-    let mut line = String::from_str(alloc, "mov $0,-")?;
-    line.push_str(text.as_str())?;
-    assert_eq!(rt; parse(alloc, line.as_bytes())?.instrs().len(), 1);
-    // each byte as a line
+fn any_bytes(rt: HostRuntime) {
     for byte in 0..=255 {
         let want = match byte {
             b' ' | b'\t' | b'\n' | b'\r' | b';' => None,
-            b'#' => fault(2, Directive),
-            _ => fault(2, UnknownOp),
+            b'#' => Some(Directive),
+            _ => Some(UnknownOp),
         };
-        assert_eq!(rt; parse(alloc, &[b'\n', byte]).err(), want, "{byte}");
+        let want = want.map(|kind| ParseError::Syntax { line: 2, kind });
+        assert_eq!(rt; parse(rt.alloc(), &[b'\n', byte]).err(), want, "{byte}");
     }
-    Ok(())
 }
 
 fn is_shared<T: Send + Sync>(_value: &T) -> bool {
     true
 }
 
+const ONE: Instr = Instr::LoopStart { start: 0, len: 1 };
+
+// Instructions that are no program by themselves.
+static MALFORMED: [Instr; 9] = [
+    ONE,
+    Instr::LoopEnd,
+    Instr::LoopStart { start: 0, len: 65 },
+    Instr::Clear {
+        start: 4096,
+        count: 0,
+    },
+    Instr::Clear {
+        start: 4095,
+        count: 2,
+    },
+    Instr::Call {
+        target: Operand::Direct(0),
+        name: 0,
+    },
+    Instr::Call {
+        target: Operand::Constant(0),
+        name: 1,
+    },
+    Instr::Arith {
+        verb: Verb::Mov,
+        target: Operand::Direct(0),
+        source: Operand::Constant(i128::MIN),
+    },
+    Instr::Arith {
+        verb: Verb::Mov,
+        target: Operand::Indirect(4096),
+        source: Operand::Constant(0),
+    },
+];
+
 #[test]
 fn lists_of_instructions(rt: HostRuntime) -> Result<(), Fail> {
     let alloc = rt.alloc();
-    let one = Instr::LoopStart { start: 0, len: 1 };
-    let program = Program::new(vec![in alloc; one, Instr::LoopEnd]?);
+    let program = Program::new(vec![in alloc; ONE, Instr::LoopEnd]?);
     assert!(rt; program.is_ok() && is_shared(&program));
-    for instr in [
-        one,
-        Instr::LoopEnd,
-        Instr::LoopStart { start: 0, len: 65 },
-        Instr::Clear {
-            start: 4096,
-            count: 0,
-        },
-        Instr::Clear {
-            start: 4095,
-            count: 2,
-        },
-        Instr::Call {
-            target: Operand::Direct(0),
-            name: 0,
-        },
-        Instr::Call {
-            target: Operand::Constant(0),
-            name: 1,
-        },
-        Instr::Arith {
-            verb: Verb::Mov,
-            target: Operand::Direct(0),
-            source: Operand::Constant(i128::MIN),
-        },
-        Instr::Arith {
-            verb: Verb::Mov,
-            target: Operand::Indirect(4096),
-            source: Operand::Constant(0),
-        },
-    ] {
+    for &instr in &MALFORMED {
         match Program::new(vec![in alloc; instr]?) {
             Ok(_) => assert!(rt; false),
             Err(given) => assert!(rt; given.as_slice() == [instr].as_slice()),
@@ -274,19 +297,21 @@ fn lists_of_instructions(rt: HostRuntime) -> Result<(), Fail> {
     Ok(())
 }
 
+static WORDS: [(SyntaxKind, &str); 9] = [
+    (Directive, "directive"),
+    (UnknownOp, "unknown-op"),
+    (Unsupported, "unsupported"),
+    (BadOperand, "bad-operand"),
+    (WideLiteral, "wide-literal"),
+    (ConstantTarget, "constant-target"),
+    (LoopClose, "loop-close"),
+    (TooLong, "too-long"),
+    (LoopOpen, "loop-open"),
+];
+
 #[test]
 fn texts_of_errors(rt: HostRuntime) -> Result<(), Fail> {
-    for (kind, text) in [
-        (Directive, "directive"),
-        (UnknownOp, "unknown-op"),
-        (Unsupported, "unsupported"),
-        (BadOperand, "bad-operand"),
-        (WideLiteral, "wide-literal"),
-        (ConstantTarget, "constant-target"),
-        (LoopClose, "loop-close"),
-        (TooLong, "too-long"),
-        (LoopOpen, "loop-open"),
-    ] {
+    for &(kind, text) in &WORDS {
         assert!(rt; format!(in rt.alloc(); "{kind}")?.as_str() == text);
     }
     let error = ParseError::Syntax {

@@ -23,7 +23,7 @@ struct Case {
     want: Option<&'static str>,
 }
 
-const CASES: [Case; 28] = [
+static CASES: [Case; 28] = [
     Case {
         program: "mul $0,$0",
         form: Shape::Direct,
@@ -224,7 +224,7 @@ fn composed_texts(rt: HostRuntime) -> Result<(), Fail> {
 }
 
 // The form, the number of instructions, and the number that the composed program has.
-const LENGTHS: [(Shape, usize, Option<usize>); 9] = [
+static LENGTHS: [(Shape, usize, Option<usize>); 9] = [
     (Shape::Direct, 1_000, Some(1_000)),
     (Shape::Linear(1, 0), 1_000, Some(1_000)),
     (Shape::Linear(2, 0), 1_000, None),
@@ -257,7 +257,7 @@ fn composed_len(alloc: Global, count: usize, form: &Form) -> Result<Option<usize
 
 #[test]
 fn lengths(rt: HostRuntime) -> Result<(), Fail> {
-    for (shape, count, want) in LENGTHS {
+    for &(shape, count, want) in &LENGTHS {
         let form = form_of(&rt, shape);
         assert_eq!(rt; composed_len(rt.alloc(), count, &form)?, want, "{count}");
     }

@@ -22,7 +22,7 @@ struct Row {
     least: &'static str,
 }
 
-const ROWS: [Row; 11] = [
+static ROWS: [Row; 11] = [
     // the second cut is good only once the first is made
     Row {
         text: "mov $1,0\nadd $0,$1\nadd $0,1\n",

@@ -17,92 +17,123 @@ fn same(terms: &[Num], want: &[i128]) -> bool {
     terms.len() == want.len() && terms.iter().zip(want).all(|(term, z)| term.get() == *z)
 }
 
+// The beginning and the rest of a text, and the place and the kind of its first fault.
+static BAD: [(&str, &str, u64, TermsKind); 21] = [
+    ("A29 ,0,", "", 1, TermsKind::BadName),
+    ("# OEIS\r\n\r\n", "B000001 ,1,\n", 3, TermsKind::BadName),
+    ("#\n\nA000000 ,1,\n", "", 3, TermsKind::BadName),
+    ("A0000001 ,1,\n", "", 1, TermsKind::BadName),
+    (" # no comment\n", "", 1, TermsKind::BadName),
+    (SQUARES, "\n\n;\n", 3, TermsKind::BadName),
+    (SQUARES, "\n\nA", 3, TermsKind::BadName),
+    ("A1234567 ,1,", "", 1, TermsKind::NoComma),
+    (SQUARES, "\nA000001,1,\n", 2, TermsKind::NoComma),
+    (SQUARES, "\nA000001 1,\n", 2, TermsKind::NoComma),
+    (SQUARES, "\n#\nA000290 ,0,1", 3, TermsKind::NoComma),
+    (SQUARES, "\nA000001 ,1,\r\r\n", 2, TermsKind::NoComma),
+    (
+        SQUARES,
+        "\nA000001 ,0,1x,4,\n",
+        2,
+        TermsKind::BadTerm { column: 12 },
+    ),
+    (
+        SQUARES,
+        "\nA000001 ,1,,2,\n",
+        2,
+        TermsKind::BadTerm { column: 12 },
+    ),
+    (
+        SQUARES,
+        "\nA000001 ,1,-,2,\n",
+        2,
+        TermsKind::BadTerm { column: 12 },
+    ),
+    (
+        SQUARES,
+        "\nA000001 ,+1,\n",
+        2,
+        TermsKind::BadTerm { column: 10 },
+    ),
+    (
+        SQUARES,
+        "\nA000001 , 1,\n",
+        2,
+        TermsKind::BadTerm { column: 10 },
+    ),
+    (
+        SQUARES,
+        "\nA000290 ,x,\n",
+        2,
+        TermsKind::BadTerm { column: 10 },
+    ),
+    (
+        "A000001 ,1,170141183460469231731687303715884105728,",
+        "x,\n",
+        1,
+        TermsKind::BadTerm { column: 52 },
+    ),
+    (
+        SQUARES,
+        "\nA000290 ,1,\n",
+        2,
+        TermsKind::Repeated { name: 290 },
+    ),
+    (
+        "A000001 ,1,\n\n",
+        "A000001 ,1,2,3,4,5,6,7,8,",
+        3,
+        TermsKind::Repeated { name: 1 },
+    ),
+];
+
 #[test]
 fn first_bad_line(rt: HostRuntime) -> Result<(), Fail> {
-    let bad_term = |column: u64| TermsKind::BadTerm { column };
-    for (first, rest, line, kind) in [
-        ("A29 ,0,", "", 1, TermsKind::BadName),
-        ("# OEIS\r\n\r\n", "B000001 ,1,\n", 3, TermsKind::BadName),
-        ("#\n\nA000000 ,1,\n", "", 3, TermsKind::BadName),
-        ("A0000001 ,1,\n", "", 1, TermsKind::BadName),
-        (" # no comment\n", "", 1, TermsKind::BadName),
-        (SQUARES, "\n\n;\n", 3, TermsKind::BadName),
-        (SQUARES, "\n\nA", 3, TermsKind::BadName),
-        ("A1234567 ,1,", "", 1, TermsKind::NoComma),
-        (SQUARES, "\nA000001,1,\n", 2, TermsKind::NoComma),
-        (SQUARES, "\nA000001 1,\n", 2, TermsKind::NoComma),
-        (SQUARES, "\n#\nA000290 ,0,1", 3, TermsKind::NoComma),
-        (SQUARES, "\nA000001 ,1,\r\r\n", 2, TermsKind::NoComma),
-        (SQUARES, "\nA000001 ,0,1x,4,\n", 2, bad_term(12)),
-        (SQUARES, "\nA000001 ,1,,2,\n", 2, bad_term(12)),
-        (SQUARES, "\nA000001 ,1,-,2,\n", 2, bad_term(12)),
-        (SQUARES, "\nA000001 ,+1,\n", 2, bad_term(10)),
-        (SQUARES, "\nA000001 , 1,\n", 2, bad_term(10)),
-        (SQUARES, "\nA000290 ,x,\n", 2, bad_term(10)),
-        (
-            "A000001 ,1,170141183460469231731687303715884105728,",
-            "x,\n",
-            1,
-            bad_term(52),
-        ),
-        (
-            SQUARES,
-            "\nA000290 ,1,\n",
-            2,
-            TermsKind::Repeated { name: 290 },
-        ),
-        (
-            "A000001 ,1,\n\n",
-            "A000001 ,1,2,3,4,5,6,7,8,",
-            3,
-            TermsKind::Repeated { name: 1 },
-        ),
-    ] {
+    for &(first, rest, line, kind) in &BAD {
         let got = parsed(rt.alloc(), first, rest).map(|table| table.rows());
         assert_eq!(rt; got, Err(TermsError::Bad { line, kind }), "{first}{rest}");
     }
     Ok(())
 }
 
-// Texts, the numbers of rows and of skipped rows, and the terms of A000290.
+// The beginning and the rest of a text, the numbers of rows and of skipped rows, and the terms of A000290.
+static USABLE: [(&str, &str, usize, u64, &[i128]); 7] = [
+    ("", "", 0, 0, &[]),
+    ("A000290 ,\r\n", "\n# the end", 0, 1, &[]),
+    ("A000290 ,1,2,3,4,5,6,7,", "\n", 0, 1, &[]),
+    (
+        "# OEIS\r\n\r\nA000290 ,0,1,4,9,16,25,36,49,64,81,\r\n",
+        "A000027 ,1,2,3,4,5,6,7,8,",
+        2,
+        0,
+        &[0, 1, 4, 9, 16, 25, 36, 49, 64, 81],
+    ),
+    (
+        "A000290 ,0,1,4,9,16,25,36,49,64,",
+        "170141183460469231731687303715884105728,100,",
+        1,
+        0,
+        &[0, 1, 4, 9, 16, 25, 36, 49, 64],
+    ),
+    (
+        "A000290 ,0,1,4,9,16,25,36,",
+        "170141183460469231731687303715884105728,64,81,100,121,",
+        0,
+        1,
+        &[],
+    ),
+    (
+        "A000290 ,007,-0,170141183460469231731687303715884105727,",
+        "-170141183460469231731687303715884105727,1,2,3,4, \t\r\n",
+        1,
+        0,
+        &[7, 0, i128::MAX, -i128::MAX, 1, 2, 3, 4],
+    ),
+];
+
 #[test]
 fn usable_terms(rt: HostRuntime) -> Result<(), Fail> {
-    let squares = [0, 1, 4, 9, 16, 25, 36, 49, 64, 81];
-    let greatest = 170141183460469231731687303715884105727;
-    let ends = [7, 0, greatest, -greatest, 1, 2, 3, 4];
-    for (first, rest, rows, skipped, terms) in [
-        ("", "", 0, 0, &[][..]),
-        ("A000290 ,\r\n", "\n# the end", 0, 1, &[][..]),
-        ("A000290 ,1,2,3,4,5,6,7,", "\n", 0, 1, &[][..]),
-        (
-            "# OEIS\r\n\r\nA000290 ,0,1,4,9,16,25,36,49,64,81,\r\n",
-            "A000027 ,1,2,3,4,5,6,7,8,",
-            2,
-            0,
-            &squares[..],
-        ),
-        (
-            "A000290 ,0,1,4,9,16,25,36,49,64,",
-            "170141183460469231731687303715884105728,100,",
-            1,
-            0,
-            &squares[..9],
-        ),
-        (
-            "A000290 ,0,1,4,9,16,25,36,",
-            "170141183460469231731687303715884105728,64,81,100,121,",
-            0,
-            1,
-            &[][..],
-        ),
-        (
-            "A000290 ,007,-0,170141183460469231731687303715884105727,",
-            "-170141183460469231731687303715884105727,1,2,3,4, \t\r\n",
-            1,
-            0,
-            &ends[..],
-        ),
-    ] {
+    for &(first, rest, rows, skipped, terms) in &USABLE {
         let table = parsed(rt.alloc(), first, rest)?;
         assert_eq!(rt;
             (table.rows(), table.skipped()),
@@ -110,8 +141,10 @@ fn usable_terms(rt: HostRuntime) -> Result<(), Fail> {
             "{first}{rest}"
         );
         let row = table.row(290);
-        assert_eq!(rt; row.is_none(), terms.is_empty(), "{first}{rest}");
-        assert!(rt; same(row.unwrap_or(&[]), terms), "{first}{rest}");
+        assert!(rt;
+            row.is_none() == terms.is_empty() && same(row.unwrap_or(&[]), terms),
+            "{first}{rest}"
+        );
     }
     Ok(())
 }
@@ -141,22 +174,25 @@ fn is_shared<T: Send + Sync>(_value: &T) -> bool {
     true
 }
 
+// A name, the place of the call that fails, and the number of rows.
+static READS: [(&str, u64, Result<usize, TermsError>); 4] = [
+    ("a", 9, Ok(1)),
+    ("a", 1, Err(TermsError::Failed)),
+    ("absent", 9, Err(TermsError::Failed)),
+    (
+        "b",
+        9,
+        Err(TermsError::Bad {
+            line: 1,
+            kind: TermsKind::BadName,
+        }),
+    ),
+];
+
 #[test]
 fn read_by_name(rt: HostRuntime) -> Result<(), Fail> {
     let alloc = rt.alloc();
-    for (name, fault, want) in [
-        ("a", 9, Ok(1)),
-        ("a", 1, Err(TermsError::Failed)),
-        ("absent", 9, Err(TermsError::Failed)),
-        (
-            "b",
-            9,
-            Err(TermsError::Bad {
-                line: 1,
-                kind: TermsKind::BadName,
-            }),
-        ),
-    ] {
+    for &(name, fault, want) in &READS {
         let mut files = Vec::new(alloc);
         let rows = Vec::from_slice(alloc, SQUARES.as_bytes())?;
         files.push(File::of(String::from_str(alloc, "a")?, rows))?;

@@ -1,5 +1,7 @@
 //! Stores and candidates files, their texts and their faults.
 
+ghost use Rattle.text_parts.specs.Names.{IsName};
+
 use crate::StoreKind::{BadCount, BadHeader, OutOfOrder, Repeated, Syntax, TooMany};
 use crate::{
     Library, Overlay, Proposal, Published, Store, StoreError, StoreKind, View, parse_candidates,
@@ -11,7 +13,7 @@ use loda_syntax::{Program, parse};
 use std::alloc::{AllocError, Global};
 use std::test::Fail;
 
-const STORE_FAULTS: [(&str, u64, StoreKind); 32] = [
+static STORE_FAULTS: [(&str, u64, StoreKind); 32] = [
     ("= A000290 7", 1, BadCount),
     ("= A000290 10\n= A000045 8", 2, OutOfOrder),
     ("=A000290 10", 1, BadHeader),
@@ -69,13 +71,13 @@ const STORE_FAULTS: [(&str, u64, StoreKind); 32] = [
 
 #[test]
 fn store_faults(rt: HostRuntime) {
-    for (text, line, kind) in STORE_FAULTS {
+    for &(text, line, kind) in &STORE_FAULTS {
         let read = parse_store(rt.alloc(), text.as_bytes()).map(|_| ());
         assert_eq!(rt; read, Err(StoreError::Bad { line, kind }), "{text}");
     }
 }
 
-const CANDIDATE_FAULTS: [(&str, u64, StoreKind); 8] = [
+static CANDIDATE_FAULTS: [(&str, u64, StoreKind); 8] = [
     ("? A000290\nlpb $0", 2, Syntax(LoopOpen)),
     ("? A000290\n? A000001 8", 2, BadHeader),
     (
@@ -92,14 +94,14 @@ const CANDIDATE_FAULTS: [(&str, u64, StoreKind); 8] = [
 
 #[test]
 fn candidate_faults(rt: HostRuntime) {
-    for (text, line, kind) in CANDIDATE_FAULTS {
+    for &(text, line, kind) in &CANDIDATE_FAULTS {
         let read = parse_candidates(rt.alloc(), text.as_bytes()).map(|_| ());
         assert_eq!(rt; read, Err(StoreError::Bad { line, kind }), "{text}");
     }
 }
 
 // Texts of stores and their canonical texts.
-const STORE_TEXTS: [(&str, &str); 5] = [
+static STORE_TEXTS: [(&str, &str); 5] = [
     ("", ""),
     (" ; nothing\r\n\t\n", ""),
     ("= A000290 10\nmul $0,$0", "= A000290 10\nmul $0,$0\n"),
@@ -115,7 +117,7 @@ const STORE_TEXTS: [(&str, &str); 5] = [
 
 #[test]
 fn store_texts(rt: HostRuntime) -> Result<(), Fail> {
-    for (text, canonical) in STORE_TEXTS {
+    for &(text, canonical) in &STORE_TEXTS {
         let store = parse_store(rt.alloc(), text.as_bytes())?;
         let mut out = vec![in rt.alloc(); b'>']?;
         print_store(&store, &mut out)?;
@@ -131,62 +133,67 @@ fn program(alloc: Global, text: &str) -> Result<Program, Fail> {
     Ok(parse(alloc, text.as_bytes())?)
 }
 
+// A name, and the next one in the store of A000005 and A000290.
+static NEXT_NAMES: [(u32, Option<u32>); 5] = [
+    (0, Some(5)),
+    (4, Some(5)),
+    (5, Some(290)),
+    (290, None),
+    (999_999, None),
+];
+
+#[test]
+fn next_names(rt: HostRuntime) -> Result<(), Fail> {
+    let store = parse_store(rt.alloc(), b"= A000005 8\n= A000290 8\n")?;
+    for &(after, next) in &NEXT_NAMES {
+        assert_eq!(rt; store.next_name(after), next, "after {after}");
+    }
+    Ok(())
+}
+
+// Puts a program under a name, and says how many terms were checked of what stood there.
+fn put(store: &mut Store, name: u32, program: &Program, checked: u32) -> Result<Option<u32>, Fail>
+    requires { IsName name }
+{
+    let published = Published {
+        program: program.copy()?,
+        checked,
+    };
+    match store.put(name, published) {
+        Ok(old) => Ok(old.map(|old| old.checked)),
+        Err(_) => Err(Fail::from("no memory")),
+    }
+}
+
+// Whether a library has this program under a name.
+fn has<L: Library>(library: &L, name: u32, program: &Program) -> bool {
+    library
+        .program(name)
+        .is_some_and(|found| found.same(program))
+}
+
 #[test]
 fn store_calls(rt: HostRuntime) -> Result<(), Fail> {
     let square = program(rt.alloc(), "mul $0,$0")?;
     let twice = program(rt.alloc(), "add $0,$0")?;
     let mut store = Store::empty(rt.alloc());
-    let first = Published {
-        program: square.copy()?,
-        checked: 10,
-    };
-    assert!(rt; matches!(store.put(290, first.copy()?), Ok(None)));
-    assert!(rt; matches!(store.put(5, first), Ok(None)));
-    let second = Published {
-        program: twice.copy()?,
-        checked: 12,
-    };
-    let old = store.put(290, second).ok().flatten().map(|old| old.checked);
-    assert_eq!(rt; old, Some(10));
+    let old = (
+        put(&mut store, 290, &square, 10)?,
+        put(&mut store, 5, &square, 10)?,
+        put(&mut store, 290, &twice, 12)?,
+    );
+    assert_eq!(rt; old, (None, None, Some(10)));
     assert_eq!(rt; store.len(), 2);
     assert_eq!(rt; store.published(290).map(|entry| entry.checked), Some(12));
-    assert!(rt; store.published(45).is_none());
-    assert!(rt;
-        store
-            .program(290)
-            .is_some_and(|program| program.same(&twice))
-    );
-    assert!(rt; store.program(0).is_none());
-    for (after, next) in [
-        (0, Some(5)),
-        (4, Some(5)),
-        (5, Some(290)),
-        (290, None),
-        (999_999, None),
-    ] {
-        assert_eq!(rt; store.next_name(after), next, "after {after}");
-    }
+    assert!(rt; store.published(45).is_none() && store.program(0).is_none());
+    assert!(rt; has(&store, 290, &twice));
     let overlay = Overlay {
         base: &store,
         name: 5,
         program: &twice,
     };
-    assert!(rt;
-        overlay
-            .program(5)
-            .is_some_and(|program| program.same(&twice))
-    );
-    assert!(rt;
-        overlay
-            .program(290)
-            .is_some_and(|program| program.same(&twice))
-    );
-    assert!(rt;
-        store
-            .program(5)
-            .is_some_and(|program| program.same(&square))
-    );
-    assert!(rt; overlay.program(45).is_none());
+    assert!(rt; has(&overlay, 5, &twice) && has(&overlay, 290, &twice));
+    assert!(rt; has(&store, 5, &square) && overlay.program(45).is_none());
     Ok(())
 }
 

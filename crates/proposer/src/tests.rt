@@ -26,7 +26,7 @@ struct Drawn {
     text: &'static str,
 }
 
-const DRAWN: [Drawn; 4] = [
+static DRAWN: [Drawn; 4] = [
     Drawn {
         words: &[0, 1, 0, 1, 4, 5, 3, 0, 1],
         store: "",
@@ -58,7 +58,7 @@ struct Row {
     proposals: &'static [(u32, &'static str)],
 }
 
-const ROWS: [Row; 7] = [
+static ROWS: [Row; 7] = [
     Row {
         text: "mov $1,3\nmul $0,$1\n",
         terms: "A016789 ,2,5,8,11,14,17,20,23,\n",

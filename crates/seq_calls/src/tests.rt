@@ -49,7 +49,7 @@ struct Row {
     nodes: &'static [Node],
 }
 
-const ROWS: [Row; 14] = [
+static ROWS: [Row; 14] = [
     Row {
         text: FIBONACCI,
         name: 45,
@@ -258,38 +258,38 @@ fn is_node(run: &NodeRun, node: &Node) -> bool {
             && call.arg.get() == *arg)
 }
 
+fn are_nodes(nodes: &[NodeRun], wants: &[Node]) -> bool {
+    nodes.len() == wants.len()
+        && nodes
+            .iter()
+            .zip(wants)
+            .all(|(node, want)| is_node(node, want))
+}
+
+// Whether each way to run it comes to what a row says, and tells its finished runs.
+fn comes_to(evaluator: &mut Evaluator, alloc: Global, row: &Row) -> Result<bool, Fail> {
+    let store = parse_store(alloc, row.text.as_bytes())?;
+    let want = outcome(&row.end)?;
+    let arg = number(row.arg)?;
+    let run = run_of(alloc, &store, row.name, arg, row.limit)?;
+    let alone = outcome_alone(alloc, &store, row.name, arg, row.limit)?;
+    let later = evaluator.outcome_alone(&store, row.name, arg, row.limit)?;
+    let kept = evaluator.evaluate_alone(&store, row.name, arg, row.limit)?;
+    let ends = run.outcome == want && alone == want && later == want && kept.outcome == want;
+    Ok(ends && are_nodes(run.nodes.list(), row.nodes) && are_nodes(kept.nodes.list(), row.nodes))
+}
+
 #[test]
 fn names(rt: HostRuntime) -> Result<(), Fail> {
     let mut evaluator = Evaluator::new(rt.alloc());
     for row in &ROWS {
-        let store = parse_store(rt.alloc(), row.text.as_bytes())?;
-        let run = run_of(rt.alloc(), &store, row.name, number(row.arg)?, row.limit)?;
-        let want = outcome(&row.end)?;
-        assert_eq!(rt;
-            run.outcome,
-            want,
+        assert!(rt;
+            comes_to(&mut evaluator, rt.alloc(), row)?,
             "{} at {} of {}",
-            row.name, row.arg, row.text
-        );
-        let alone = outcome_alone(rt.alloc(), &store, row.name, number(row.arg)?, row.limit)?;
-        assert_eq!(rt; alone, want, "{} of {}", row.name, row.text);
-        let later = evaluator.outcome_alone(&store, row.name, number(row.arg)?, row.limit)?;
-        assert_eq!(rt; later, want, "{} of {}", row.name, row.text);
-        let kept = evaluator.evaluate_alone(&store, row.name, number(row.arg)?, row.limit)?;
-        assert_eq!(rt; kept.outcome, want, "{} of {}", row.name, row.text);
-        let count = kept.nodes.list().len();
-        assert_eq!(rt; count, row.nodes.len(), "{} of {}", row.name, row.text);
-        let nodes = run.nodes.list();
-        assert_eq!(rt;
-            nodes.len(),
-            row.nodes.len(),
-            "{} of {}",
             row.name,
+            row.arg,
             row.text
         );
-        for (node, want) in nodes.iter().zip(row.nodes) {
-            assert!(rt; is_node(node, want), "{node:?} of {}", row.text);
-        }
     }
     Ok(())
 }
@@ -302,7 +302,7 @@ struct Text {
     ends: &'static [End],
 }
 
-const TEXTS: [Text; 4] = [
+static TEXTS: [Text; 4] = [
     Text {
         text: "mov $1,3\nmul $0,$1\n",
         store: "",

@@ -31,7 +31,7 @@ struct Case {
     wants: &'static [Want],
 }
 
-const CASES: [Case; 12] = [
+static CASES: [Case; 12] = [
     Case {
         what: "a generated line",
         rows: &[Row {
@@ -327,6 +327,15 @@ fn found(
     Ok(index.matches(alloc, &numbers)?)
 }
 
+// Whether these are the matches.
+fn are_wanted(rt: &impl Abort, list: &[Match], wants: &[Want]) -> bool {
+    list.len() == wants.len()
+        && list
+            .iter()
+            .zip(wants)
+            .all(|(found, want)| *found == wanted(rt, *want))
+}
+
 #[test]
 fn each_form(rt: HostRuntime) -> Result<(), Fail> {
     let alloc = rt.alloc();
@@ -336,57 +345,59 @@ fn each_form(rt: HostRuntime) -> Result<(), Fail> {
             add_row(alloc, &mut text, row.name, &row.terms)?;
         }
         let list = found(&rt, alloc, text.as_str(), &case.values)?;
-        assert_eq!(rt; list.len(), case.wants.len(), "{}", case.what);
-        for place in 0..list.len().min(case.wants.len()) {
-            assert!(rt;
-                list[place] == wanted(&rt, case.wants[place]),
-                "{} {place}",
-                case.what
-            );
-        }
+        assert!(rt; are_wanted(&rt, &list, case.wants), "{}", case.what);
     }
     Ok(())
 }
 
-// Seventeen rows of one form, and two forms that have seventeen together.
+static SQUARES: [i128; 9] = [0, 1, 4, 9, 16, 25, 36, 49, 64];
+
+// Each form, and the terms from which it makes the squares.
+static FORMS: [(Want, [i128; 8]); 4] = [
+    (Want::Direct(1), [0, 1, 4, 9, 16, 25, 36, 49]),
+    (Want::Difference(1), [1, 3, 5, 7, 9, 11, 13, 15]),
+    (Want::Sum(1), [0, 1, 5, 14, 30, 55, 91, 140]),
+    (Want::Linear(1, 2, 1), [1, 3, 9, 19, 33, 51, 73, 99]),
+];
+
+// Whether the names go up one by one from the first, and the matches have this form.
+fn are_consecutive(list: &[Match], first: u32, form: &Form) -> bool {
+    let names = first..first.saturating_add(16);
+    list.iter()
+        .zip(names)
+        .all(|(found, name)| found.name == name && found.form == *form)
+}
+
+// Seventeen rows of one form.
 #[test]
 fn first_sixteen(rt: HostRuntime) -> Result<(), Fail> {
     let alloc = rt.alloc();
-    let squares = [0, 1, 4, 9, 16, 25, 36, 49, 64];
-    let linear = wanted(&rt, Want::Linear(1, 2, 1)).form;
-    let forms = [
-        (Form::Direct, [0, 1, 4, 9, 16, 25, 36, 49]),
-        (Form::Difference, [1, 3, 5, 7, 9, 11, 13, 15]),
-        (Form::Sum, [0, 1, 5, 14, 30, 55, 91, 140]),
-        (linear, [1, 3, 9, 19, 33, 51, 73, 99]),
-    ];
-    for (form, terms) in &forms {
+    for (want, terms) in &FORMS {
         let mut text = String::new(alloc);
         for back in 0..17u32 {
             add_row(alloc, &mut text, 26 - back, terms)?;
         }
-        let list = found(&rt, alloc, text.as_str(), &squares)?;
+        let list = found(&rt, alloc, text.as_str(), &SQUARES)?;
         assert_eq!(rt; list.len(), 16);
-        for place in 0..list.len().min(16) {
-            assert_eq!(rt; list[place].name, 10 + place as u32);
-            assert!(rt; list[place].form == *form);
-        }
+        assert!(rt; are_consecutive(&list, 10, &wanted(&rt, *want).form));
     }
+    Ok(())
+}
+
+// Two forms that have seventeen together.
+#[test]
+fn direct_before_differences(rt: HostRuntime) -> Result<(), Fail> {
+    let alloc = rt.alloc();
     let mut text = String::new(alloc);
-    add_row(alloc, &mut text, 11, &forms[1].1)?;
-    add_row(alloc, &mut text, 10, &forms[1].1)?;
+    add_row(alloc, &mut text, 11, &FORMS[1].1)?;
+    add_row(alloc, &mut text, 10, &FORMS[1].1)?;
     for name in 30..45u32 {
-        add_row(alloc, &mut text, name, &forms[0].1)?;
+        add_row(alloc, &mut text, name, &FORMS[0].1)?;
     }
-    let list = found(&rt, alloc, text.as_str(), &squares)?;
-    assert_eq!(rt; list.len(), 16);
-    for place in 0..list.len().min(15) {
-        assert_eq!(rt; list[place].name, 30 + place as u32);
-        assert!(rt; list[place].form == Form::Direct);
-    }
-    if list.len() == 16 {
-        assert!(rt; list[15] == wanted(&rt, Want::Difference(10)));
-    }
+    let list = found(&rt, alloc, text.as_str(), &SQUARES)?;
+    assert!(rt; list.len() == 16);
+    assert!(rt; are_consecutive(&list[..15], 30, &Form::Direct));
+    assert!(rt; list[15] == wanted(&rt, Want::Difference(10)));
     Ok(())
 }
 
