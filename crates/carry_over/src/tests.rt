@@ -26,7 +26,7 @@ const SQUARE_AND_OTHER: &str = "= A000290 10\nmul $0,$0\n= A016742 8\nmul $0,2\n
 
 const CUT: &str = "? A000290\nmov $1,$0\nmin $1,9\nmul $0,$1\n";
 
-const ROWS: [Row; 8] = [
+static ROWS: [Row; 8] = [
     // the proposal's callee was published
     Row {
         older: "",

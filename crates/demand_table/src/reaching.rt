@@ -10,6 +10,7 @@ use crate::upward::under;
 use seq_calls::NodeRun;
 use std::alloc::{AllocError, Global};
 use std::collections::BTreeSet;
+use text_parts::GREATEST_NAME;
 use version_pages::Pages;
 
 // The name stands under another one.
@@ -22,7 +23,7 @@ fn add_caller(
     ensures grows { IfOk result (λ next. Grows callers next) }
     ensures here { IfOk result (λ next. IsName to → Contains (names_filed_under next to) from) }
 {
-    if to < 1 || to > 999_999 {
+    if to < 1 || to > GREATEST_NAME {
         return Ok(callers);
     }
     let found = under(&callers, to);

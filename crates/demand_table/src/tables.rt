@@ -25,6 +25,7 @@ use program_store::{Library, Proposal, Published, Store, View};
 use seq_calls::NodeRun;
 use std::alloc::{AllocError, Global};
 use std::marker::Model;
+use text_parts::GREATEST_NAME;
 use version_pages::Pages;
 
 /// The programs of a store without cycles whose checked runs have values, and what these runs demand. It is seen as the store.
@@ -159,7 +160,7 @@ impl View for Tables {
 
     fn published(&self, name: u32) -> Option<&Published> {
         let _first = self.programs.get(1);
-        if name < 1 || name > 999_999 {
+        if name < 1 || name > GREATEST_NAME {
             return None;
         }
         self.programs.get(name)

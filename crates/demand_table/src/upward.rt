@@ -8,6 +8,7 @@ ghost use Rattle.demand_table.specs.Upward.{names_filed_under, AddsNames, IsMetO
 use crate::names::Names;
 use std::alloc::{AllocError, Global};
 use std::collections::BTreeSet;
+use text_parts::GREATEST_NAME;
 use version_pages::Pages;
 
 // Adds the names that were not met yet.
@@ -29,7 +30,7 @@ pub fn under(callers: &Pages<Names>, name: u32) -> &[u32]
     ensures { result.now ≡ names_filed_under callers.now name }
 {
     let _first = callers.get(1);
-    if name < 1 || name > 999_999 {
+    if name < 1 || name > GREATEST_NAME {
         return &[];
     }
     match callers.get(name) {

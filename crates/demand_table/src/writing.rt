@@ -21,6 +21,7 @@ use crate::work::Work;
 use checked_numbers::Num;
 use std::alloc::{AllocError, Global};
 use std::collections::BTreeMap;
+use text_parts::GREATEST_NAME;
 use version_pages::Pages;
 
 // The nodes of a name, in ascending order of their arguments: those that it had, and in their places those of its slots.
@@ -45,7 +46,7 @@ fn write_name(
     ensures { IfOk result (λ next. IsFiled folders next name slots) }
 {
     let _first = folders.get(1);
-    if name < 1 || name > 999_999 {
+    if name < 1 || name > GREATEST_NAME {
         return Ok(folders);
     }
     let Some(folder) = folders.get(name) else {

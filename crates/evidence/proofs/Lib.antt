@@ -20,3 +20,5 @@ pub mod Weights
 pub mod Demanded
 -- The replies to a proposal, with their finished runs and steps.
 pub mod Replies
+-- The frames of a dossier whose proposal was accepted fit the demand table of its snapshot.
+mod FramesFit

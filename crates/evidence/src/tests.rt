@@ -59,7 +59,7 @@ pub const LIMIT: u64 = 100_000;
 
 const TERMS: &str = "A000290 ,0,1,4,9,16,25,36,49,64,81,\nA016742 ,0,4,16,36,64,100,144,196,\n";
 
-const ROWS: [Row; 4] = [
+static ROWS: [Row; 4] = [
     // eight runs of a caller, each with one of its callee
     Row {
         store: "= A000290 10\nmul $0,$0\n",
@@ -153,25 +153,39 @@ fn is_shared<T: Send + Sync>(_value: &T) -> bool {
     true
 }
 
+// What is found for a row's first candidate, or for none.
+fn found(alloc: Global, terms: &TermTable, row: &Row) -> Result<Option<Dossier>, Fail>
+    requires bounded { IsBounded terms.now }
+{
+    let store = parse_store(alloc, row.store.as_bytes())?;
+    let candidates = parse_candidates(alloc, row.candidates.as_bytes())?;
+    let proposal = if candidates.len() > 0 {
+        Some(candidates.at(0).copy()?)
+    } else {
+        None
+    };
+    Ok(gathered_alone(alloc, &store, terms, proposal)?)
+}
+
+// Whether a dossier says what its row says.
+fn tells(dossier: &Dossier, row: &Row) -> bool {
+    let snapshot = dossier.snapshot();
+    let seen = (dossier.seen(), snapshot.version(), snapshot.length());
+    in_numbers(dossier.finding()) == row.told
+        && dossier.runs().len() == row.runs
+        && (dossier.job(), dossier.base()) == (7, 3)
+        && seen == (3, 3, 5)
+        && is_shared(dossier)
+        && is_shared(snapshot)
+}
+
 #[test]
 fn findings(rt: HostRuntime) -> Result<(), Fail> {
     let alloc = rt.alloc();
     let terms = read_terms(alloc, &mut shelf_of(alloc, TERMS)?, "t")?;
     for row in &ROWS {
-        let store = parse_store(alloc, row.store.as_bytes())?;
-        let candidates = parse_candidates(alloc, row.candidates.as_bytes())?;
-        let proposal = if candidates.len() > 0 {
-            Some(candidates.at(0).copy()?)
-        } else {
-            None
-        };
-        let dossier = gathered_alone(alloc, &store, &terms, proposal)?.ok_or("unsound")?;
-        assert_eq!(rt; in_numbers(dossier.finding()), row.told);
-        assert_eq!(rt; dossier.runs().len(), row.runs);
-        assert_eq!(rt; (dossier.job(), dossier.base(), dossier.seen()), (7, 3, 3));
-        let snapshot = dossier.snapshot();
-        assert_eq!(rt; (snapshot.version(), snapshot.length()), (3, 5));
-        assert!(rt; is_shared(&dossier) && is_shared(snapshot));
+        let dossier = found(alloc, &terms, row)?.ok_or("unsound")?;
+        assert!(rt; tells(&dossier, row), "{}", row.candidates);
         assert_eq!(rt; next_text(alloc, dossier)?.as_slice(), row.next.as_bytes());
     }
     Ok(())

@@ -1,6 +1,8 @@
 -- A desk as clauses see it, and what holds of each.
 use Rattle.std.specs.Prelude.{ℕ, ◌+◌, ◌<◌, ◌≡◌, ◌≤◌, List, [], ◌∷◌, ◌++◌, reverse, length, slice_get}
 use Rattle.std.specs.declared.option.Option.{Option}
+use Rattle.loda_semantics.specs.declared.limits.TheConstants.{GREATEST_STEP_LIMIT}
+use Rattle.program_store.specs.declared.candidates.TheConstants.{MOST_JOBS}
 use Rattle.program_store.specs.declared.published.Proposal.{Proposal}
 use Rattle.program_store.specs.Store.{Store}
 use Rattle.oeis_terms.specs.Table.{Table, row_of, IsBounded, IsTable}
@@ -63,8 +65,8 @@ pub record IsKept (d : Desk) : Type 0 where
 -- the bounds of a desk
 pub record IsChartered (c : Charter) : Type 0 where
   pub positive : 1 ≤ c.limit
-  pub limit : c.limit ≤ 10000000
-  pub jobs : c.jobs ≤ 1000000
+  pub limit : c.limit ≤ GREATEST_STEP_LIMIT
+  pub jobs : c.jobs ≤ MOST_JOBS
   pub listed : HasJobs c.source c.jobs
   pub bounded : IsBounded c.terms
   pub table : IsTable c.terms

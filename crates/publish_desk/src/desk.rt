@@ -2,6 +2,7 @@
 
 ghost use Rattle.std.specs.Prelude.{◌≡◌, ◌+◌, ◌<◌, ◌≤◌, ℕ, [], IfOk, IfSome, IfNone, length, reverse};
 ghost use Rattle.std.specs.Arc.{arc_value};
+ghost use Rattle.loda_semantics.specs.Limits.{IsStepLimit};
 ghost use Rattle.oeis_terms.specs.Table.{row_of, IsBounded};
 ghost use Rattle.judge.specs.Sound.{IsUnsound};
 ghost use Rattle.evidence.specs.Findings.{next_store};
@@ -16,7 +17,7 @@ use demand_table::Tables;
 use evidence::{Change, Dossier, Finding, Parts};
 use judge::{CheckError, Unsound, check_store};
 use oeis_terms::TermTable;
-use program_store::Store;
+use program_store::{MOST_JOBS, Store};
 use std::alloc::{AllocError, Global};
 use std::marker::Model;
 use std::snapshot::Snapshot;
@@ -97,8 +98,8 @@ impl Desk {
         origin: Origin,
         jobs: u64,
     ) -> Result<Desk, OpenError>
-        requires limit { (1 ≤ limit) × (limit ≤ 10000000) }
-        requires jobs { jobs ≤ 1000000 }
+        requires limit { IsStepLimit limit }
+        requires jobs { jobs ≤ MOST_JOBS }
         requires listed { HasJobs (source_of origin) jobs }
         requires bounded { IsBounded (arc_value terms) }
         ensures charter { IfOk result (λ d. d.charter ≡ record { opening = opening; terms = arc_value terms; limit = limit; source = source_of origin; jobs = jobs }) }

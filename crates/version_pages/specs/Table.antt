@@ -43,5 +43,5 @@ abbrev pub in_blocks : {T : Type 0} → List (Option (List (Option T))) → ℕ 
 in_blocks blocks at = on_page blocks (at / 25) (at % 25)
 
 -- the places of a row that is held in blocks, in their order
-unfoldable pub row_of : {T : Type 0} → List (Option (List (Option T))) → List (Option T)
-row_of blocks = map (in_blocks blocks) (range_with_len 0 (25 * length blocks))
+unfoldable pub row_of_blocks : {T : Type 0} → List (Option (List (Option T))) → List (Option T)
+row_of_blocks blocks = map (in_blocks blocks) (range_with_len 0 (25 * length blocks))

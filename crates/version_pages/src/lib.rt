@@ -16,6 +16,7 @@ use std::alloc::{AllocError, Global};
 use std::marker::Model;
 use std::sync::Arc;
 use table::{Table, into_with_value, next_after, value_at, with_value};
+use text_parts::GREATEST_NAME;
 
 /// A map from names, which are the numbers from 1 to 999,999, to values.
 ///
@@ -63,7 +64,7 @@ impl<T: Drop> Pages<T> {
 
     /// The least name above `after` that has a value. Pages with nothing on them are passed over.
     pub fn next_name(&self, after: u32) -> Option<u32>
-        requires { after ≤ 999999 }
+        requires { after ≤ GREATEST_NAME }
         ensures found { IfSome result (λ next. IsNextName self.now after next) }
         ensures none { IfNone result (HasNoneAbove self.now after) }
     {

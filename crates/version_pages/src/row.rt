@@ -3,7 +3,7 @@
 ghost use Rattle.std.specs.Prelude.{◌≡◌, ℕ, ◌/◌, ◌%◌, ◌<◌, ◌≤◌, length, [], IfOk, IfSome, IfNone, IsSome, ◌≢◌};
 ghost use Rattle.std.specs.Option.{option_and_then, option_copied, option_map};
 ghost use Rattle.std.specs.Arc.{arc_value};
-ghost use Rattle.version_pages.specs.Table.{place, held, on_page, row_of};
+ghost use Rattle.version_pages.specs.Table.{place, held, on_page, row_of_blocks};
 
 use crate::block::{Block, held_at, into_with_at, taken, with_at};
 use std::alloc::{AllocError, Global};
@@ -25,11 +25,11 @@ pub struct Row<X> {
 
 impl<X> Model for Row<X> {
     ghost use Rattle.std.specs.Prelude.{List, Option, length, ◌≤◌};
-    ghost use Rattle.version_pages.specs.Table.{held, row_of};
+    ghost use Rattle.version_pages.specs.Table.{held, row_of_blocks};
 
     ghost Value = { List (Option X) };
 
-    ghost view = { λ row. row_of (held row.blocks.items) };
+    ghost view = { λ row. row_of_blocks (held row.blocks.items) };
 
     ghost invariant = { λ row. length row.blocks.items ≤ 40 };
 }
@@ -111,9 +111,9 @@ impl<X: Drop> Row<X> {
 fn next_held<X>(blocks: &[Option<Arc<Block<X>>>], from: usize) -> Option<usize>
     requires { length blocks.now ≤ 40 }
     ensures range { IfSome result (λ at. (from ≤ at) × (at < 1000)) }
-    ensures found { IfSome result (λ at. IsSome (place (row_of (held blocks.now)) at)) }
-    ensures least { IfSome result (λ at. (k : ℕ) → from ≤ k → k < at → place (row_of (held blocks.now)) k ≡ None) }
-    ensures none { IfNone result ((k : ℕ) → from ≤ k → place (row_of (held blocks.now)) k ≡ None) }
+    ensures found { IfSome result (λ at. IsSome (place (row_of_blocks (held blocks.now)) at)) }
+    ensures least { IfSome result (λ at. (k : ℕ) → from ≤ k → k < at → place (row_of_blocks (held blocks.now)) k ≡ None) }
+    ensures none { IfNone result ((k : ℕ) → from ≤ k → place (row_of_blocks (held blocks.now)) k ≡ None) }
 {
     let mut start = from % WIDTH;
     for block in from / WIDTH..blocks.len() {
@@ -147,10 +147,10 @@ fn blocks_with<X: Drop>(
 ) -> Result<Vec<Option<Arc<Block<X>>>>, AllocError>
     requires place { at < 1000 }
     requires few { length blocks.now ≤ 40 }
-    ensures here { IfOk result (λ new. place (row_of (held new.items)) at ≡ Some value) }
-    ensures others { IfOk result (λ new. (k : ℕ) → k ≢ at → place (row_of (held new.items)) k ≡ place (row_of (held blocks.now)) k) }
+    ensures here { IfOk result (λ new. place (row_of_blocks (held new.items)) at ≡ Some value) }
+    ensures others { IfOk result (λ new. (k : ℕ) → k ≢ at → place (row_of_blocks (held new.items)) k ≡ place (row_of_blocks (held blocks.now)) k) }
     ensures few { IfOk result (λ new. length new.items ≤ 40) }
-    ensures bound { IfOk result (λ new. length (row_of (held new.items)) ≤ 1000) }
+    ensures bound { IfOk result (λ new. length (row_of_blocks (held new.items)) ≤ 1000) }
 {
     let block = block_with(alloc, blocks, at, value)?;
     let new = with_at(alloc, blocks, at / WIDTH, block)?;
@@ -165,10 +165,10 @@ fn into_blocks_with<X: Drop>(
 ) -> Result<Vec<Option<Arc<Block<X>>>>, AllocError>
     requires place { at < 1000 }
     requires few { length blocks.items ≤ 40 }
-    ensures here { IfOk result (λ new. place (row_of (held new.items)) at ≡ Some value) }
-    ensures others { IfOk result (λ new. (k : ℕ) → k ≢ at → place (row_of (held new.items)) k ≡ place (row_of (held blocks.items)) k) }
+    ensures here { IfOk result (λ new. place (row_of_blocks (held new.items)) at ≡ Some value) }
+    ensures others { IfOk result (λ new. (k : ℕ) → k ≢ at → place (row_of_blocks (held new.items)) k ≡ place (row_of_blocks (held blocks.items)) k) }
     ensures few { IfOk result (λ new. length new.items ≤ 40) }
-    ensures bound { IfOk result (λ new. length (row_of (held new.items)) ≤ 1000) }
+    ensures bound { IfOk result (λ new. length (row_of_blocks (held new.items)) ≤ 1000) }
 {
     let mut rest = blocks;
     let alloc = *rest.allocator();
@@ -219,8 +219,8 @@ fn taken_out<X: Drop>(
     blocks: &mut Vec<Option<Arc<Block<X>>>>,
     at: usize,
 ) -> Result<Option<Arc<X>>, AllocError>
-    ensures taken { IfOk result (λ taken. option_map arc_value taken ≡ place (row_of (held blocks.old.items)) at) }
-    ensures others { IfOk result (λ _. (k : ℕ) → k ≢ at → place (row_of (held blocks.new.items)) k ≡ place (row_of (held blocks.old.items)) k) }
+    ensures taken { IfOk result (λ taken. option_map arc_value taken ≡ place (row_of_blocks (held blocks.old.items)) at) }
+    ensures others { IfOk result (λ _. (k : ℕ) → k ≢ at → place (row_of_blocks (held blocks.new.items)) k ≡ place (row_of_blocks (held blocks.old.items)) k) }
     ensures len { length blocks.new.items ≡ length blocks.old.items }
 {
     if at / WIDTH >= blocks.len() {

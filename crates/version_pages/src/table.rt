@@ -11,6 +11,7 @@ ghost use Rattle.version_pages.specs.Table.{place, on_page, at_name, map_of};
 use crate::row::{PLACES, Row};
 use std::alloc::{AllocError, Global};
 use std::sync::Arc;
+use text_parts::GREATEST_NAME;
 
 /// Up to 1,000 pages.
 pub type Table<T> = Row<Row<T>>;
@@ -24,7 +25,7 @@ pub fn value_at<T>(table: &Table<T>, name: u32) -> Option<&T>
 
 /// The least name above `after` that has a value.
 pub fn next_after<T>(table: &Table<T>, after: u32) -> Option<u32>
-    requires { after ≤ 999999 }
+    requires { after ≤ GREATEST_NAME }
     ensures found { IfSome result (λ next. IsNextName (map_of table.now) after next) }
     ensures none { IfNone result (HasNoneAbove (map_of table.now) after) }
 {

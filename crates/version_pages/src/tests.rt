@@ -1,6 +1,7 @@
 //! What no clause says: that there is memory for each call, and what threads do beside one another.
 
 ghost use Rattle.std.specs.Prelude.{◌<◌};
+ghost use Rattle.text_parts.specs.Names.{IsName};
 
 use super::*;
 use std::process::Abort;
@@ -8,7 +9,7 @@ use std::test::Fail;
 use std::thread::{Threads, join};
 
 /// What was put: a name, and its value. The first two pages, the last, and places at both ends of a page are among them.
-const PUTS: [(u32, u32); 10] = [
+static PUTS: [(u32, u32); 10] = [
     (1, 10),
     (999, 20),
     (1000, 30),
@@ -24,7 +25,7 @@ const PUTS: [(u32, u32); 10] = [
 // The value that the last of the first `count` puts gave a name, by a scan.
 fn last_put(count: usize, name: u32) -> Option<u32> {
     let mut last = None;
-    for (at, (put, value)) in PUTS.into_iter().enumerate() {
+    for (at, &(put, value)) in PUTS.iter().enumerate() {
         if at < count && put == name {
             last = Some(value);
         }
@@ -35,7 +36,7 @@ fn last_put(count: usize, name: u32) -> Option<u32> {
 // The least name above `after` among the first `count` puts, by a scan.
 fn least_put_above(count: usize, after: u32) -> Option<u32> {
     let mut least = None;
-    for (at, (put, _)) in PUTS.into_iter().enumerate() {
+    for (at, &(put, _)) in PUTS.iter().enumerate() {
         if at < count && put > after && least.is_none_or(|name| put < name) {
             least = Some(put);
         }
@@ -47,7 +48,7 @@ fn least_put_above(count: usize, after: u32) -> Option<u32> {
 fn versions(rt: &impl Abort, alloc: Global) -> Result<Vec<Pages<u32>>, AllocError> {
     let mut versions = Vec::new(alloc);
     let mut newest = Pages::empty(alloc)?;
-    for (name, value) in PUTS {
+    for &(name, value) in &PUTS {
         assert!(rt; 1 <= name && name <= 999_999);
         let next = newest.put(name, value)?;
         versions.push(newest)?;
@@ -65,7 +66,7 @@ fn versions_written_in_place(
 ) -> Result<Vec<Pages<u32>>, AllocError> {
     let mut versions = Vec::new(alloc);
     let mut newest = Pages::empty(alloc)?;
-    for (name, value) in PUTS {
+    for &(name, value) in &PUTS {
         assert!(rt; 1 <= name && name <= 999_999);
         versions.push(newest.share()?)?;
         newest = newest.with(name, value.wrapping_add(1))?.with(name, value)?;
@@ -83,24 +84,25 @@ fn every_version_answers_as_before(rt: HostRuntime) -> Result<(), Fail> {
     Ok(())
 }
 
+static NAMES: [u32; 13] = [
+    1, 2, 45, 998, 999, 1000, 1001, 1002, 500_000, 998_999, 999_000, 999_998, 999_999,
+];
+
+// Whether a version has what the first `count` puts gave a name.
+fn answers(version: &Pages<u32>, count: usize, name: u32) -> bool
+    requires { IsName name }
+{
+    version.get(name).copied() == last_put(count, name)
+        && version.next_name(name) == least_put_above(count, name)
+}
+
 // Each version has what the puts up to it gave.
 fn assert_versions(rt: &impl Abort, versions: &[Pages<u32>]) {
     assert_eq!(rt; versions.len(), 11);
     for (count, version) in versions.iter().enumerate() {
-        for name in [
-            1, 2, 45, 998, 999, 1000, 1001, 1002, 500_000, 998_999, 999_000, 999_998, 999_999,
-        ] {
+        for &name in &NAMES {
             assert!(rt; 1 <= name && name <= 999_999);
-            assert_eq!(rt;
-                version.get(name).copied(),
-                last_put(count, name),
-                "{name} after {count} puts"
-            );
-            assert_eq!(rt;
-                version.next_name(name),
-                least_put_above(count, name),
-                "above {name} after {count} puts"
-            );
+            assert!(rt; answers(version, count, name), "{name} after {count} puts");
         }
         assert_eq!(rt;
             version.next_name(0),
@@ -110,15 +112,19 @@ fn assert_versions(rt: &impl Abort, versions: &[Pages<u32>]) {
     }
 }
 
+static SPARSE: [u32; 4] = [999_999, 12_000, 3, 11_999];
+
+static ASCENDING: [Option<u32>; 5] = [Some(3), Some(11_999), Some(12_000), Some(999_999), None];
+
 #[test]
 fn walks_a_sparse_map(rt: HostRuntime) -> Result<(), Fail> {
     let mut pages = Pages::empty(rt.alloc())?;
-    for name in [999_999, 12_000, 3, 11_999] {
+    for &name in &SPARSE {
         assert!(rt; 1 <= name && name <= 999_999);
         pages = pages.put(name, name)?;
     }
     let mut after = 0;
-    for want in [Some(3), Some(11_999), Some(12_000), Some(999_999), None] {
+    for &want in &ASCENDING {
         assert!(rt; after <= 999_999);
         let next = pages.next_name(after);
         assert_eq!(rt; next, want, "above {after}");
