@@ -14,7 +14,7 @@ use Rattle.publish_desk.specs.History.{version_of, IsInOrder, IsMissing, IsDoneA
 use Rattle.publish_desk.specs.Desk.{Desk, IsKept, IsVerdict, history, decided}
 use Rattle.publish_desk.proofs.Lists.{reverse_push, all_reverse}
 use Rattle.publish_desk.proofs.Places.{get_left, get_last}
-use Rattle.mine_workers.specs.Histories.{AscendFrom, GoesOn, AddsJob, HasAdded, IsWhole}
+use Rattle.mine_workers.specs.Histories.{AscendFrom, GoesOn, AddsJob, HasAdded, HasEveryJob}
 
 -- ---- one job
 
@@ -141,5 +141,5 @@ module _ (old new : Desk) (jobs : ℕ) (all : Begun old new jobs) where
   pub goes_on : GoesOn old.journal new.journal
   goes_on = record { added = all.added; split = all.split; ascend = all.ascend }
 
-  pub whole : new.charter.jobs ≤ jobs → IsWhole new
+  pub whole : new.charter.jobs ≤ jobs → HasEveryJob new
   whole le = λ job lt. all.done job (omega (arith, le, lt))

@@ -5,8 +5,8 @@ use Rattle.publish_desk.specs.History.{version_of, IsDoneAt}
 use Rattle.publish_desk.specs.Desk.{Desk, history}
 
 -- each job has an entry
-abbrev pub IsWhole : Desk → Type 0
-IsWhole d = (job : ℕ) → job < d.charter.jobs → (at : ℕ) × IsDoneAt d.journal job at
+abbrev pub HasEveryJob : Desk → Type 0
+HasEveryJob d = (job : ℕ) → job < d.charter.jobs → (at : ℕ) × IsDoneAt d.journal job at
 
 -- The entries that were added to these, each list from its newest: their jobs ascend, and the base of each is the version at its place.
 abbrev pub AscendFrom : List Entry → List Entry → Type 0

@@ -4,3 +4,4 @@ pub mod Supplies
 pub mod Histories
 pub mod Shared
 pub mod Posts
+pub mod Publishable

@@ -5,7 +5,7 @@ ghost use mathlib.Core.List.{IsPrefix};
 ghost use Rattle.publish_desk.specs.Desk.{IsFitting, IsKept, history};
 ghost use Rattle.publish_desk.specs.History.{IsInOrder, IsMissing};
 ghost use Rattle.mine_workers.specs.JobSources.{job_source_of};
-ghost use Rattle.mine_workers.specs.Histories.{IsWhole, GoesOn, AddsJob, HasAdded};
+ghost use Rattle.mine_workers.specs.Histories.{HasEveryJob, GoesOn, AddsJob, HasAdded};
 
 use crate::accepting::is_accepted;
 use crate::gate::Gate;
@@ -85,7 +85,7 @@ pub fn finish<G: Gate>(
     requires source { source.now ≡ job_source_of desk.charter }
     ensures charter { IfOk result (λ d. d.charter ≡ desk.charter) }
     ensures begins { IfOk result (λ d. IsPrefix desk.journal d.journal) }
-    ensures whole { IfOk result IsWhole }
+    ensures whole { IfOk result HasEveryJob }
     ensures alone { IfOk result (λ d. GoesOn desk.journal d.journal) }
     ensures fresh { desk.journal ≡ [] → IfOk result (λ d. IsInOrder (history d)) }
     ensures kept { IfOk result IsKept }

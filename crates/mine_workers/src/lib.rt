@@ -6,6 +6,8 @@ mod alone;
 mod choosing;
 mod gate;
 mod held;
+mod news;
+mod renewing;
 mod run;
 mod shared;
 #[cfg(test)]
@@ -18,6 +20,7 @@ mod working;
 pub use alone::finish;
 pub use gate::{Gate, OpenGate};
 pub use held::Held;
+pub use news::News;
 pub use run::run_jobs;
 pub use shared::SharedStore;
 pub use source::JobSource;

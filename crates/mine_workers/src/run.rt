@@ -4,7 +4,7 @@ ghost use Rattle.std.specs.Prelude.{◌≡◌, ◌≤◌, [], IfOk};
 ghost use mathlib.Core.List.{IsPrefix};
 ghost use Rattle.publish_desk.specs.Desk.{IsKept, history};
 ghost use Rattle.publish_desk.specs.History.{IsInOrder};
-ghost use Rattle.mine_workers.specs.Histories.{IsWhole, GoesOn};
+ghost use Rattle.mine_workers.specs.Histories.{HasEveryJob, GoesOn};
 
 use crate::alone::finish;
 use crate::gate::Gate;
@@ -30,7 +30,7 @@ pub fn run_jobs<G: Gate, R: Threads + Wait + Sync>(
     requires workers { (1 ≤ workers) × (workers ≤ 64) }
     ensures charter { IfOk result (λ d. d.charter ≡ desk.charter) }
     ensures begins { IfOk result (λ d. IsPrefix desk.journal d.journal) }
-    ensures whole { IfOk result IsWhole }
+    ensures whole { IfOk result HasEveryJob }
     ensures kept { IfOk result IsKept }
     ensures alone { workers ≡ 1 → IfOk result (λ d. GoesOn desk.journal d.journal) }
     ensures fresh { workers ≡ 1 → desk.journal ≡ [] → IfOk result (λ d. IsInOrder (history d)) }

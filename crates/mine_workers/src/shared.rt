@@ -6,10 +6,11 @@ ghost use Rattle.turnstile.specs.Seats.{Joining, newcomer, told_of, fresh};
 ghost use Rattle.judge.specs.Sound.{Sound};
 ghost use Rattle.publish_desk.specs.declared.entry.Entry.{Entry};
 ghost use Rattle.publish_desk.specs.Desk.{IsFitting, IsKept, terms_of};
-ghost use Rattle.publish_desk.specs.History.{version_of};
+ghost use Rattle.publish_desk.specs.History.{version_of, changes_after};
 ghost use Rattle.mine_workers.specs.Shared.{desk_of, snapshot_of, IsSeatOf, Looked, Published, IsAgainBounded};
 
 use crate::held::Held;
+use crate::news::News;
 use evidence::{Dossier, Snapshot};
 use publish_desk::{Desk, Verdict};
 use std::alloc::{AllocError, Global};
@@ -83,6 +84,37 @@ impl SharedStore {
         let shown = found.desk.snapshot();
         self.turnstile.give(seat, found);
         shown
+    }
+
+    /// Waits for the turn, and answers what `look` answers and the entries that were accepted after a version.
+    ///
+    /// # Errors
+    ///
+    /// There is no memory. The seat has then seen the journal nevertheless.
+    pub fn news<R: Wait>(
+        &self,
+        rt: &R,
+        alloc: Global,
+        seat: &mut Seat<Held>,
+        since: u64,
+    ) -> Result<News, AllocError>
+        requires seat { IsSeatOf self.now seat.old }
+        requires idle { seat.old.known.turn ≡ false }
+        requires since { since ≤ version_of (reverse seat.old.known.seen) }
+        ensures seat { IsSeatOf self.now seat.new }
+        ensures idle { seat.new.known.turn ≡ false }
+        ensures looked { Looked seat.old.known seat.new.known }
+        ensures shown { IfOk result (λ n. n.snapshot ≡ snapshot_of (desk_of self.now.fixed seat.new.known.seen)) }
+        ensures changes { IfOk result (λ n. n.changes ≡ changes_after since (reverse seat.new.known.seen)) }
+        ensures sound { IfOk result (λ n. Sound n.snapshot.store (terms_of self.now.fixed) self.now.fixed.limit) }
+        ensures grown { IfOk result (λ n. (earlier : List Entry) → IsPrefix earlier seat.old.known.seen → version_of (reverse earlier) ≤ n.snapshot.version) }
+    {
+        let found = self.turnstile.take(rt, seat);
+        // What is kept of each desk: a sound store that its journal replays to.
+        let _ = found.desk.version();
+        let told = News::since(alloc, &found.desk, since);
+        self.turnstile.give(seat, found);
+        told
     }
 
     /// A length that the journal has reached. It waits for nobody.

@@ -5,9 +5,12 @@ ghost use Rattle.oeis_terms.specs.Table.{IsBounded};
 ghost use Rattle.judge.specs.Sound.{Sound};
 ghost use Rattle.publish_desk.specs.Desk.{terms_of, IsChartered, IsFitting};
 ghost use Rattle.mine_workers.specs.JobSources.{job_source_of};
+ghost use Rattle.mine_workers.specs.Publishable.{IsPublishable};
 ghost use Rattle.mine_workers.specs.Shared.{desk_of, snapshot_of, IsSeatOf};
 
-use crate::{Gate, Held, JobSource, SharedStore, run_jobs};
+use crate::renewing::{found, renewed};
+use crate::working::perform;
+use crate::{Gate, Held, JobSource, OpenGate, SharedStore, run_jobs};
 use evidence::{Dossier, Snapshot};
 use loda_io::{File, MemoryShelf};
 use oeis_terms::{TermTable, read_terms};
@@ -29,9 +32,14 @@ const SQUARES: &str = "A000290 ,0,1,4,9,16,25,36,49,64,81,\n";
 
 const TWO_ROWS: &str = "A000290 ,0,1,4,9,16,25,36,49,64,81,\nA000027 ,1,2,3,4,5,6,7,8,\n";
 
+const THREE_ROWS: &str =
+    "A000290 ,0,1,4,9,16,25,36,49,64,81,\nA000027 ,1,2,3,4,5,6,7,8,\nA016742 ,0,4,16,36,64,100,144,196,\n";
+
 const SQUARE: &str = "? A000290\nmul $0,$0\n";
 
 const TWO_CANDIDATES: &str = "? A000290\nmul $0,$0\n? A000027\nadd $0,1\n";
+
+const SQUARE_AND_CALLER: &str = "? A000290\nmul $0,$0\n? A016742\nmul $0,2\nseq $0,290\n";
 
 const SQUARE_REPORT: &str = "\
 journal
@@ -136,8 +144,8 @@ fn first_two(desk: &Desk) -> Option<((u64, u64), (u64, u64), usize)> {
     ))
 }
 
-// two-at-once: one worker is held before its publish until the other's is decided. So it has to gather anew, and publishes a
-// third time: its first publish is Again, since the version is 1.
+// two-at-once: one worker is held before its publish until the other's is decided. Its first publish is Again, since the version is
+// 1; it carries its dossier, whose base stays 0, and publishes once more.
 #[test]
 fn two_at_once(rt: HostRuntime) -> Result<(), Fail> {
     let alloc = rt.alloc();
@@ -147,7 +155,7 @@ fn two_at_once(rt: HostRuntime) -> Result<(), Fail> {
     assert_eq!(rt; gate.counts(), (false, 3, 2));
     let held = gate.held_job.load(Ordering::SeqCst);
     let other = if held == 0 { 1 } else { 0 };
-    assert_eq!(rt; first_two(&desk), Some(((other, 0), (held, 1), 2)));
+    assert_eq!(rt; first_two(&desk), Some(((other, 0), (held, 0), 2)));
     Ok(())
 }
 
@@ -296,4 +304,77 @@ fn late_dossier(rt: HostRuntime) -> Result<(), Fail> {
     assert_eq!(rt; after, (1, 1, 1));
     assert_eq!(rt; desk.missing_job(), Some(1));
     has_one_entry(&rt, alloc, &desk)
+}
+
+// What publishing a late dossier answers, and after Again what publishing it answers once it is renewed.
+fn publish_late<R: Wait>(
+    rt: &R,
+    alloc: Global,
+    store: &SharedStore,
+    source: &JobSource,
+    seat: &mut Seat<Held>,
+    late: Dossier,
+) -> Result<(Told, Option<Told>), AllocError>
+    requires source { (source.now ≡ job_source_of store.now.fixed) × IsChartered store.now.fixed }
+    requires seat { IsSeatOf store.now seat.old × (seat.old.known.turn ≡ false) }
+    requires late { IsPublishable store.now.fixed seat.old.known.seen late }
+    ensures { IsSeatOf store.now seat.new × (seat.new.known.turn ≡ false) }
+{
+    match store.publish(rt, seat, late) {
+        Verdict::Again {
+            version,
+            first,
+            name,
+            dossier,
+        } => {
+            let newer = renewed(rt, alloc, source, store, seat, dossier)?;
+            let second = in_numbers(&store.publish(rt, seat, newer));
+            Ok((Told::Again(version, first, name), Some(second)))
+        }
+        verdict => Ok((in_numbers(&verdict), None)),
+    }
+}
+
+// The second job's dossier is found before the first job is done, and comes after it.
+fn come_late<R: Wait>(rt: &R, alloc: Global, desk: Desk) -> Result<(Told, Option<Told>, Desk), Fail>
+    requires two { 1 < desk.charter.jobs }
+{
+    let source = JobSource::of(alloc, &desk)?;
+    let (store, mut one, mut two) = with_two_seats(alloc, desk)?;
+    let late = found(rt, alloc, &source, &store, &mut two, 1)?;
+    perform(rt, alloc, &source, &store, &OpenGate, 1, &mut one, 0)?;
+    let (first, second) = publish_late(rt, alloc, &store, &source, &mut two, late)?;
+    Ok((first, second, store.close(rt, one)))
+}
+
+// Whether a desk's report has a line.
+fn prints(alloc: Global, desk: &Desk, line: &str) -> Result<bool, Fail> {
+    let mut report = Vec::new(alloc);
+    write_report(desk, &mut report)?;
+    let text = String::from_utf8(report).map_err(|_| "no text")?;
+    Ok(text.contains(line))
+}
+
+// Two candidates, and the line of the second one's entry. The base tells whether its late dossier was carried on or found anew.
+static LATE: [(&str, &str); 2] = [
+    // untouched-moves
+    (TWO_CANDIDATES, "\njob 1 base 0 A000027 accepted 8\n"),
+    // touched-stays: its callee was published
+    (SQUARE_AND_CALLER, "\njob 1 base 1 A016742 accepted 8\n"),
+];
+
+#[test]
+fn late_dossiers_move_on(rt: HostRuntime) -> Result<(), Fail> {
+    let alloc = rt.alloc();
+    for &(candidates, line) in &LATE {
+        let desk = opened(alloc, THREE_ROWS, candidates)?;
+        assert_eq!(rt; desk.jobs(), 2);
+        let (first, second, desk) = come_late(&rt, alloc, desk)?;
+        assert_eq!(rt;
+            (first, second),
+            (Told::Again(1, 0, 290), Some(Told::Decided(1)))
+        );
+        assert!(rt; prints(alloc, &desk, line)?);
+    }
+    Ok(())
 }

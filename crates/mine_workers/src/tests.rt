@@ -99,7 +99,7 @@ struct Row {
     counts: (u64, u64, u64),
 }
 
-const ROWS: [Row; 3] = [
+static ROWS: [Row; 3] = [
     Row {
         candidates: "",
         counts: (0, 0, 0),

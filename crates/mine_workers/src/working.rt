@@ -11,6 +11,7 @@ ghost use Rattle.mine_workers.specs.Shared.{IsSeatOf};
 use crate::accepting::is_accepted;
 use crate::gate::Gate;
 use crate::held::Held;
+use crate::renewing::{found, renewed};
 use crate::shared::SharedStore;
 use crate::source::JobSource;
 use crossbeam_deque::{Injector, Steal};
@@ -81,8 +82,8 @@ fn posts<'a>(
     Ok(all)
 }
 
-// Publishes for a job, or finds that it is done. After Again all is found anew.
-fn perform<G: Gate, R: Wait>(
+/// Publishes for a job, or finds that it is done. After Again the dossier is carried on, or all is found anew.
+pub fn perform<G: Gate, R: Wait>(
     rt: &R,
     alloc: Global,
     source: &JobSource,
@@ -97,9 +98,8 @@ fn perform<G: Gate, R: Wait>(
     requires job { job < store.now.fixed.jobs }
     ensures { IsSeatOf store.now seat.new × (seat.new.known.turn ≡ false) }
 {
+    let mut dossier = found(rt, alloc, source, store, seat, job)?;
     for _ in rt.forever() {
-        let snapshot = store.look(rt, seat)?;
-        let dossier = source.dossier(alloc, &snapshot, job)?;
         let accepted = is_accepted(dossier.finding());
         gate.before_publish(worker, job);
         match store.publish(rt, seat, dossier) {
@@ -112,8 +112,10 @@ fn perform<G: Gate, R: Wait>(
                 version: _,
                 first: _,
                 name: _,
-                dossier: _,
-            } => {}
+                dossier: late,
+            } => {
+                dossier = renewed(rt, alloc, source, store, seat, late)?;
+            }
         }
     }
     unreachable!()

@@ -1,21 +1,9 @@
-use Rattle.std.proofs.Common.{sym, subst}
-use Rattle.oeis_terms.specs.Table.{row_of}
-use Rattle.judge.specs.Sound.{Sound}
-use Rattle.mine_workers.specs.JobSources.{JobSource, HasJob}
-use Rattle.mine_workers.proofs.Fits.{has_job}
-use Rattle.mine_workers.proofs.Gathered.{fits_gathered}
+use Rattle.mine_workers.proofs.Publishable.{again_publishable}
 use Rattle.mine_workers.proofs.working.perform.Goals as goal
 
-pub dossier-requires-clause-sound : goal.dossier-requires-clause-sound
-dossier-requires-clause-sound g c =
-    subst (λ (j : JobSource). Sound c.in_ok-snapshot.snapshot.store (row_of j.terms) j.limit) (sym c.requires.source.0) c.in_ok-snapshot.ensures.sound
-
-pub dossier-requires-clause-listed : goal.dossier-requires-clause-listed
-dossier-requires-clause-listed g c =
-    let charter = c.args.store.now.fixed in
-    subst (λ (j : JobSource). HasJob j.source c.args.job) (sym c.requires.source.0) (has_job charter.source charter.jobs c.args.job c.requires.source.1.listed c.requires.job)
-
 pub publish-requires-clause-fitting : goal.publish-requires-clause-fitting
-publish-requires-clause-fitting g c =
-    let told = c.in_ok-dossier.ensures in
-    fits_gathered c.args.store.now.fixed _ c.args.source.now c.in_ok-snapshot.snapshot c.args.job c.in_ok-dossier.dossier c.requires.source.0 c.in_ok-snapshot.ensures.shown c.requires.job told.job told.snapshot told.base told.finding told.proposed
+publish-requires-clause-fitting g c = c.loop.invariant.2.fitting
+
+pub renewed-requires-clause-late : goal.renewed-requires-clause-late
+renewed-requires-clause-late g c =
+    again_publishable c.args.store.now.fixed c.loop.seat.known c.publish.new.seat.known c.loop.dossier c.publish.result c.publish.ensures.published _ _ _ c.in-Again.late c.in-Again.is c.loop.invariant.2
