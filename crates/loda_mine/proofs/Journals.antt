@@ -11,7 +11,7 @@ use Rattle.publish_desk.specs.Desk.{Desk, IsKept, history, origin_of, terms_of}
 use Rattle.std.proofs.lemmas.Option.{slice_get_within, get_or_from_slice_get}
 use Rattle.program_store.proofs.Rising.{lt_or_le}
 use Rattle.publish_desk.specs.History.{IsLegal, IsInOrder, IsDoneAt}
-use Rattle.mine_workers.specs.Histories.{IsWhole}
+use Rattle.mine_workers.specs.Histories.{HasEveryJob}
 use Rattle.loda_mine.specs.declared.files.Contents.{Contents}
 use Rattle.loda_mine.specs.Answer.{IsDecided, IsMined}
 use Rattle.publish_desk.proofs.Lists.{all_reverse}
@@ -44,7 +44,7 @@ no_entry journal at o h =
     job_is_new journal o at h.0 within (ap (λ (x : Entry). x.job) is ∙ h.2)
 
 -- A journal in order in which each job has an entry has as many entries as there are jobs.
-pub as_many : (d : Desk) → IsKept d → IsInOrder (history d) → IsWhole d → length d.journal ≡ d.charter.jobs
+pub as_many : (d : Desk) → IsKept d → IsInOrder (history d) → HasEveryJob d → length d.journal ≡ d.charter.jobs
 as_many d kept o whole = by_size (lt_or_le (length d.journal) d.charter.jobs)
   where
     most : length d.journal ≤ d.charter.jobs
@@ -55,7 +55,7 @@ as_many d kept o whole = by_size (lt_or_le (length d.journal) d.charter.jobs)
     by_size (inr enough) = omega (arith, most, enough)
 
 -- a desk that was opened on these contents, and then decided every job in order
-pub decided : (contents : Contents) (limit : ℕ) (a d : Desk) → a.charter ≡ charter_of contents limit → d.charter ≡ a.charter → IsWhole d → IsInOrder (history d) → IsKept d → IsDecided contents limit d
+pub decided : (contents : Contents) (limit : ℕ) (a d : Desk) → a.charter ≡ charter_of contents limit → d.charter ≡ a.charter → HasEveryJob d → IsInOrder (history d) → IsKept d → IsDecided contents limit d
 decided contents limit a d opened same whole in_order kept = record {
   charter = same ∙ opened;
   kept = kept;
@@ -68,7 +68,7 @@ abbrev pub seeded_charter : Contents → ℕ → ℕ → ℕ → Charter
 seeded_charter contents limit seed jobs = record { opening = contents.store; terms = contents.terms; limit = limit; source = Seeded seed; jobs = jobs }
 
 -- a desk that was opened so, and then got an entry for each job
-pub mined : (contents : Contents) (limit seed jobs workers : ℕ) (a d : Desk) → a.charter ≡ seeded_charter contents limit seed jobs → a.journal ≡ [] → d.charter ≡ a.charter → IsKept d → IsWhole d
+pub mined : (contents : Contents) (limit seed jobs workers : ℕ) (a d : Desk) → a.charter ≡ seeded_charter contents limit seed jobs → a.journal ≡ [] → d.charter ≡ a.charter → IsKept d → HasEveryJob d
     → (workers ≡ 1 → a.journal ≡ [] → IsInOrder (history d)) → IsMined contents limit seed jobs workers d
 mined contents limit seed jobs workers a d opened new same kept whole in_order = record {
   charter = same ∙ opened;

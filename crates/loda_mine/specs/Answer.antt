@@ -28,7 +28,7 @@ use Rattle.publish_desk.specs.declared.desk.OpenError.TheVariants as open_errors
 use Rattle.publish_desk.specs.Desk.{Desk, IsKept, history}
 use Rattle.publish_desk.specs.History.{IsInOrder}
 use Rattle.publish_desk.specs.Report.{report}
-use Rattle.mine_workers.specs.Histories.{IsWhole}
+use Rattle.mine_workers.specs.Histories.{HasEveryJob}
 use Rattle.loda_mine.specs.declared.files.Contents.{Contents}
 use Rattle.loda_mine.specs.declared.status.FileRole.{FileRole}
 use Rattle.loda_mine.specs.declared.status.FileRole.TheVariants.{Terms, Store, Candidates}
@@ -121,7 +121,7 @@ pub record IsDecided (contents : Contents) (limit : ℕ) (d : Desk) : Type 0 whe
 pub record IsMined (contents : Contents) (limit seed jobs workers : ℕ) (d : Desk) : Type 0 where
   pub charter : d.charter ≡ record { opening = contents.store; terms = contents.terms; limit = limit; source = Seeded seed; jobs = jobs }
   pub kept : IsKept d
-  pub whole : IsWhole d
+  pub whole : HasEveryJob d
   pub in_order : workers ≡ 1 → IsInOrder (history d)
 
 -- what stands in made files: the rows, no program, and the candidates of n names

@@ -5,8 +5,6 @@ mod checking;
 mod ending;
 mod files;
 mod making;
-#[cfg(test)]
-mod mine_tests;
 mod mining;
 mod publishing;
 mod run;
