@@ -1,6 +1,6 @@
 //! The totals of runs.
 
-ghost use Rattle.std.specs.Prelude.{◌≡◌, ◌+◌, ◌<◌, ◌≤◌, ◌^◌, ℕ, length, IfOk, IfSome, IfNone, OnOk, IsSome, Contains, sum_by, slice_index_or};
+ghost use Rattle.std.specs.Prelude.{◌≡◌, ◌+◌, ◌<◌, ◌≤◌, ◌^◌, ℕ, [], length, IfOk, IfSome, IfNone, OnOk, IsSome, Contains, sum_by, slice_index_or};
 ghost use Rattle.std.specs.List.{AllWithin, HoldsAt};
 ghost use Rattle.std.specs.declared.option.Option.TheVariants.{None, Some};
 ghost use Rattle.loda_semantics.specs.declared.kinds.Pair.{Pair};
@@ -122,23 +122,25 @@ fn step(known: &Known<'_>, work: &Work, pair: &Pair, from: usize) -> Step
     Step::Total(sum(known, work, entry.own, calls))
 }
 
-// Settles the total of a pair, and first those of the calls on which it waits, with a stack of the pairs that wait. Says how
-// many are left.
-pub fn settle(
+// Settles the total of a pair, and first those of the calls on which it waits, with a stack of the pairs that wait, whose memory
+// serves again. Says how many are left.
+fn settle(
     alloc: Global,
     known: &Known<'_>,
     work: &mut Work,
+    stack: &mut Vec<Frame>,
     pair: &Pair,
     many: u64,
 ) -> Result<u64, AllocError>
+    requires empty { stack.old.items ≡ [] }
     requires settling { IsSettling (slots_of known.now.pages.now work.old) many }
     requires unsettled { IsUnsettled (slots_of known.now.pages.now work.old) pair.now }
     ensures settles { OnOk result (Settles (slots_of known.now.pages.now work.old) (slots_of known.now.pages.now work.new)) }
     ensures here { OnOk result (IsSome (slots_of known.now.pages.now work.new pair.now).total) }
     ensures left { IfOk result (λ left. IsSettling (slots_of known.now.pages.now work.new) left) }
+    ensures empty { OnOk result (stack.new.items ≡ []) }
 {
     let mut left = many;
-    let mut stack = Vec::new(alloc);
     let first = Frame {
         pair: *pair,
         from: 0,
@@ -183,9 +185,10 @@ pub fn settle_all(
     ensures known { OnOk result ((q : Pair) → IsUnsettled (slots_of known.now.pages.now work.new) q → ⊥) }
 {
     let mut left = many;
+    let mut stack = Vec::new(alloc);
     for pair in pairs {
         if total(known, work, pair).is_none() {
-            left = settle(alloc, known, work, pair, left)?;
+            left = settle(alloc, known, work, &mut stack, pair, left)?;
         }
     }
     Ok(())

@@ -15,6 +15,7 @@ use checked_numbers::Num;
 use loda_semantics::Pair;
 use std::alloc::{AllocError, Global};
 use std::collections::BTreeMap;
+use std::mem::replace;
 
 /// The slot of a pair, where it was touched.
 pub fn touched<'w>(work: &'w Work, pair: &Pair) -> Option<&'w Slot>
@@ -23,13 +24,16 @@ pub fn touched<'w>(work: &'w Work, pair: &Pair) -> Option<&'w Slot>
     work.touched.get(&pair.name)?.get(&pair.arg)
 }
 
-// Takes the slot of a pair out, where it was touched.
+// Takes the slot of a pair, where it was touched, and leaves a blank one in its place.
 fn take_touched(work: &mut Work, pair: &Pair) -> Option<Slot>
     ensures taken { result ≡ touched_in work.old pair.now }
     ensures others { (q : Pair) → (q ≡ pair.now → ⊥) → touched_in work.new q ≡ touched_in work.old q }
 {
     match work.touched.get_mut(&pair.name) {
-        Some(slots) => slots.remove(&pair.arg),
+        Some(slots) => match slots.get_mut(&pair.arg) {
+            Some(slot) => Some(replace(slot, Slot::blank())),
+            None => None,
+        },
         None => None,
     }
 }
@@ -40,11 +44,7 @@ fn old_slot(alloc: Global, known: &Known<'_>, pair: &Pair) -> Result<Slot, Alloc
 {
     match known::node(known, pair) {
         Some(node) => known::slot(alloc, node),
-        None => Ok(Slot {
-            callers: 0,
-            entry: None,
-            total: None,
-        }),
+        None => Ok(Slot::blank()),
     }
 }
 

@@ -3,6 +3,8 @@ use Rattle.std.specs.Prelude.{IsSome}
 use Rattle.std.specs.Option.{is_some}
 use Rattle.std.specs.declared.option.Option.{Option}
 use Rattle.std.specs.declared.option.Option.TheVariants.{Some, None}
+use Rattle.std.specs.Global.{Vec}
+use Rattle.demand_table.specs.declared.frame.Frame.{Frame}
 use Rattle.std.proofs.lemmas.List.{drop_more, drop_all}
 use Rattle.loda_semantics.specs.declared.kinds.Pair.{Pair}
 use Rattle.demand_table.specs.declared.entry.Entry.{Entry}
@@ -74,14 +76,14 @@ loop-pair-preserved c =
           ) in
           let moved = subst (λ (k : Work). IsSettling (slots_of c.args.known.now.pages.now k) c.if-is_none.left × Settles old (slots_of c.args.known.now.pages.now k) × ((q : Pair) → IsUnsettled (slots_of c.args.known.now.pages.now k) q → Contains (drop (i + 1) pairs) q)) (sym w1.work-is)
           (subst (λ (n : ℕ). IsSettling new n × Settles old new × ((q : Pair) → IsUnsettled new q → Contains (drop (i + 1) pairs) q)) (sym w1.left-is) all) in
-          record { settling = moved.0; settles = moved.1; rest = moved.2 }
+          record { empty = ap (λ (v : Vec Frame). v.items) w1.stack-is ∙ w1.in_ok-left.ensures.empty; settling = moved.0; settles = moved.1; rest = moved.2 }
       | else-is_none w1 ↦
           let known : IsSome (w p).total = subst (λ (o : Option ℕ). IsSome o) c.total.ensures (some_from c.total.result w1.if-is_none.ensures) in
           let all : IsSettling w c.loop-pair.left × Settles old w × ((q : Pair) → IsUnsettled w q → Contains (drop (i + 1) pairs) q) =
           (h.settling, h.settles, λ q k. past w pairs i p c.loop-pair-test.true c.pair-item.is known q k (h.rest q k)) in
           let moved = subst (λ (k : Work). IsSettling (slots_of c.args.known.now.pages.now k) c.if-is_none.left × Settles old (slots_of c.args.known.now.pages.now k) × ((q : Pair) → IsUnsettled (slots_of c.args.known.now.pages.now k) q → Contains (drop (i + 1) pairs) q)) (sym w1.work-is)
           (subst (λ (n : ℕ). IsSettling w n × Settles old w × ((q : Pair) → IsUnsettled w q → Contains (drop (i + 1) pairs) q)) (sym w1.left-is) all) in
-          record { settling = moved.0; settles = moved.1; rest = moved.2 }
+          record { empty = ap (λ (v : Vec Frame). v.items) w1.stack-is ∙ h.empty; settling = moved.0; settles = moved.1; rest = moved.2 }
     ]
 
 pub returns : goal.returns
