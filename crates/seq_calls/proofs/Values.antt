@@ -1,5 +1,5 @@
 -- Which value an outcome is.
-use Rattle.std.proofs.Common.{ℕ, ◌≡◌, sym, ap, subst, arith, ℤ, pos, negsuc, Bool, true, false, eqb}
+use Rattle.std.proofs.Common.{ℕ, ◌≡◌, sym, ap, subst, arith, ℤ, pos, negsuc, true, false, eqb}
 use Rattle.std.specs.Prelude.{IsTrue}
 use Rattle.loda_semantics.specs.Exec.{Outcome, value, fault, out}
 use Rattle.seq_calls.specs.declared.outcomes.Outcome.TheVariants as told_as

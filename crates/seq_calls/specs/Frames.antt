@@ -46,3 +46,7 @@ nodes_in (call q x o inner rest) = (nodes_in inner ++ node_of q x o inner) ++ no
 -- those of a run of a name, which is the last
 abbrev pub nodes_of : ℕ → ℤ → Outcome × Calls → List NodeRun
 nodes_of q x ran = nodes_in ran.1 ++ node_of q x ran.0 ran.1
+
+-- the run's own alone
+abbrev pub own_nodes : ℕ → ℤ → Outcome × Calls → List NodeRun
+own_nodes q x ran = node_of q x ran.0 ran.1

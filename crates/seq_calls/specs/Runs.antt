@@ -1,14 +1,12 @@
 -- What is known of runs that call. Only clauses of private functions use what stands here.
-use Rattle.std.specs.Prelude.{ℕ, ◌-◌, ◌<◌, ◌≤◌, ◌≡◌, ◌≢◌, ℤ, pos, Contains}
+use Rattle.std.specs.Prelude.{ℕ, ◌-◌, ◌<◌, ◌≤◌, ◌≡◌, ℤ, pos}
 use Rattle.std.specs.declared.option.Option.TheVariants.{Some}
-use Rattle.loda_semantics.specs.declared.kinds.Pair.{Pair}
-use Rattle.loda_semantics.specs.Laws.{Cheaper}
 use Rattle.loda_semantics.specs.Exec.{value, Calls, Library, run_name}
 use Rattle.program_store.specs.declared.published.Published.{Published}
 use Rattle.program_store.specs.Store.{Store, published_at, programs_of}
 use Rattle.seq_calls.specs.declared.outcomes.NodeRun.{NodeRun}
-use Rattle.seq_calls.specs.Frames.{steps_below, direct, nodes_of}
-use Rattle.seq_calls.specs.Demand.{InTrace, ample, InDem, IsReliedOn}
+use Rattle.seq_calls.specs.Frames.{steps_below, direct}
+use Rattle.seq_calls.specs.Demand.{ample}
 
 -- a run that has a value within n steps, and its calls
 pub record HasRun (lib : Library) (n q : ℕ) (x : ℤ) : Type 0 where

@@ -1,11 +1,11 @@
 //! Runs of programs with their calls.
 
-ghost use Rattle.std.specs.Prelude.{◌≡◌, ◌+◌, ◌-◌, ◌≤◌, ◌<◌, ◌++◌, Some, IfOk, IfSome, OnOk};
-ghost use Rattle.std.specs.Option.{option_copied};
+ghost use Rattle.std.specs.Prelude.{◌≡◌, ◌+◌, ◌-◌, ◌≤◌, ◌<◌, ◌++◌, ◌&&◌, Some, None, false, IfOk, IfSome, OnOk};
+ghost use Rattle.std.specs.Option.{option_copied, is_some};
 ghost use Rattle.loda_semantics.specs.Exec.{run_name, run_text};
-ghost use Rattle.seq_calls.specs.Frames.{told, steps_of, nodes_of};
+ghost use Rattle.seq_calls.specs.Frames.{told, steps_of, nodes_of, own_nodes};
 ghost use Rattle.seq_calls.specs.Known.{IsFoundIn};
-ghost use Rattle.seq_calls.specs.Under.{IsRun};
+ghost use Rattle.seq_calls.specs.Under.{keeps, IsRun};
 
 use crate::counting::Steps;
 use crate::finished::{Finished, Frames};
@@ -56,22 +56,40 @@ fn found<'a, B: Library>(lib: &'a B, last: &mut Option<Known<'a>>, name: u32) ->
     Some(program)
 }
 
+// Whether the finished runs of callees are kept.
+fn are_kept(name: Option<u32>, all: bool) -> bool
+    ensures { result ≡ (is_some name && all) }
+{
+    name.is_some() && all
+}
+
+// Whether the calls of a run with these callers are kept.
+#[inline(always)]
+fn keeps_calls(callers: &[Caller<'_>], outermost: bool, each: bool) -> bool
+    ensures { result ≡ keeps outermost each callers.now }
+{
+    if callers.is_empty() { outermost } else { each }
+}
+
 // A run of a program, with a frame for each run that has not ended. The frame of a run that ended serves the next call, of this
-// run or a later one. Finished runs are kept where the program has a name, and else nobody asks for them.
+// run or a later one. Finished runs are kept where the program has a name, all of them or its own alone, and else nobody asks for
+// them.
 fn run_frames<'a, B: Library>(
     finished: &mut Finished,
     lib: &'a B,
     program: &'a Program,
     name: Option<u32>,
+    all: bool,
     arg: Num,
     budget: &mut u64,
 ) -> Result<Outcome, AllocError>
-    ensures run { IfOk result (λ outcome. IsRun (run_text (B.programs lib.now) program.now arg budget.old) name arg budget.old outcome finished.new.nodes.items budget.new) }
+    ensures run { IfOk result (λ outcome. IsRun (run_text (B.programs lib.now) program.now arg budget.old) name all arg budget.old outcome finished.new.nodes.items budget.new) }
     ensures budget { budget.new ≤ budget.old }
 {
     let limit = *budget;
     let alloc = finished.alloc;
-    let kept = name.is_some();
+    let named = name.is_some();
+    let kept = are_kept(name, all);
     finished.nodes.clear();
     let mut callers: Vec<Caller<'a>> = Vec::new(alloc);
     let mut frame = begin(alloc, &mut finished.free, program, arg, limit)?;
@@ -102,7 +120,8 @@ fn run_frames<'a, B: Library>(
                 finished.take(kept, frame, caller.call, value, used)?;
                 text = caller.program;
                 frame = caller.frame;
-                frame.go_on(kept, caller.call, value, used)?;
+                let keeps = keeps_calls(&callers, named, kept);
+                frame.go_on(keeps, caller.call, value, used)?;
             }
             Stop::Fault(kind) => return Ok(failed(kind, limit - *budget)),
             Stop::Spent => return Ok(Outcome::OutOfSteps),
@@ -110,19 +129,34 @@ fn run_frames<'a, B: Library>(
     }
 }
 
-// A run of a name, whether or not it has a program.
+// A run of a program that has no name.
+fn run_unnamed<B: Library>(
+    finished: &mut Finished,
+    lib: &B,
+    program: &Program,
+    arg: Num,
+    budget: &mut u64,
+) -> Result<Outcome, AllocError>
+    ensures run { IfOk result (λ outcome. IsRun (run_text (B.programs lib.now) program.now arg budget.old) None false arg budget.old outcome finished.new.nodes.items budget.new) }
+    ensures budget { budget.new ≤ budget.old }
+{
+    run_frames(finished, lib, program, None, false, arg, budget)
+}
+
+// A run of a name, whether or not it has a program. All finished runs are kept, or its own alone.
 fn run_name<B: Library>(
     finished: &mut Finished,
     lib: &B,
     name: u32,
+    all: bool,
     arg: Num,
     budget: &mut u64,
 ) -> Result<Outcome, AllocError>
-    ensures run { IfOk result (λ outcome. IsRun (run_name (B.programs lib.now) name arg budget.old) (Some name) arg budget.old outcome finished.new.nodes.items budget.new) }
+    ensures run { IfOk result (λ outcome. IsRun (run_name (B.programs lib.now) name arg budget.old) (Some name) all arg budget.old outcome finished.new.nodes.items budget.new) }
     ensures budget { budget.new ≤ budget.old }
 {
     match lib.program(name) {
-        Some(program) => run_frames(finished, lib, program, Some(name), arg, budget),
+        Some(program) => run_frames(finished, lib, program, Some(name), all, arg, budget),
         None => {
             finished.nodes.clear();
             Ok(failed(FaultKind::Missing, 0))
@@ -164,7 +198,7 @@ impl Evaluator {
         ensures bounded { steps.new ≤ steps.old + limit }
     {
         let mut left = limit;
-        let outcome = run_name(&mut self.finished, lib, name, arg, &mut left);
+        let outcome = run_name(&mut self.finished, lib, name, true, arg, &mut left);
         steps.tick(limit - left);
         let outcome = outcome?;
         let nodes = self.finished.hand_over();
@@ -183,7 +217,24 @@ impl Evaluator {
         ensures nodes { IfOk result (λ run. run.nodes ≡ nodes_of name arg (run_name (B.programs lib.now) name arg limit)) }
     {
         let mut left = limit;
-        let outcome = run_name(&mut self.finished, lib, name, arg, &mut left)?;
+        let outcome = run_name(&mut self.finished, lib, name, true, arg, &mut left)?;
+        let nodes = self.finished.hand_over();
+        Ok(Run { outcome, nodes })
+    }
+
+    /// The outcome of `evaluate_alone`, with the run's own finished run alone.
+    pub fn evaluate_own<B: Library>(
+        &mut self,
+        lib: &B,
+        name: u32,
+        arg: Num,
+        limit: u64,
+    ) -> Result<Run, AllocError>
+        ensures outcome { IfOk result (λ run. run.outcome ≡ told (run_name (B.programs lib.now) name arg limit).0) }
+        ensures nodes { IfOk result (λ run. run.nodes ≡ own_nodes name arg (run_name (B.programs lib.now) name arg limit)) }
+    {
+        let mut left = limit;
+        let outcome = run_name(&mut self.finished, lib, name, false, arg, &mut left)?;
         let nodes = self.finished.hand_over();
         Ok(Run { outcome, nodes })
     }
@@ -200,7 +251,7 @@ impl Evaluator {
     {
         let mut left = limit;
         match lib.program(name) {
-            Some(program) => run_frames(&mut self.finished, lib, program, None, arg, &mut left),
+            Some(program) => run_unnamed(&mut self.finished, lib, program, arg, &mut left),
             None => Ok(failed(FaultKind::Missing, 0)),
         }
     }
@@ -223,7 +274,7 @@ impl Evaluator {
         ensures bounded { steps.new ≤ steps.old + limit }
     {
         let mut left = limit;
-        let outcome = run_frames(&mut self.finished, lib, program, None, arg, &mut left);
+        let outcome = run_unnamed(&mut self.finished, lib, program, arg, &mut left);
         steps.tick(limit - left);
         outcome
     }

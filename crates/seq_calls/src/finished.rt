@@ -1,6 +1,6 @@
 //! Runs that have ended.
 
-ghost use Rattle.std.specs.Prelude.{◌≡◌, ◌≤◌, ◌-◌, ◌++◌, ◌∷◌, [], IsTrue, OnOk};
+ghost use Rattle.std.specs.Prelude.{◌≡◌, ◌≤◌, ◌-◌, ◌++◌, ◌∷◌, [], false, IsTrue, OnOk};
 ghost use Rattle.seq_calls.specs.Under.{ended_run, named_run};
 
 use crate::outcomes::NodeRun;
@@ -79,7 +79,8 @@ impl Finished {
         used: u64,
     ) -> Result<(), AllocError>
         requires { callee.value.below ≤ used }
-        ensures { OnOk result (IsTrue kept → self.new.nodes.items ≡ self.old.nodes.items ++ ended_run call value (used - callee.value.below) callee.value.calls.items ∷ []) }
+        ensures kept { OnOk result (IsTrue kept → self.new.nodes.items ≡ self.old.nodes.items ++ ended_run call value (used - callee.value.below) callee.value.calls.items ∷ []) }
+        ensures alone { OnOk result (kept ≡ false → self.new.nodes.items ≡ self.old.nodes.items) }
     {
         if kept {
             let node = callee.end(self.alloc, call, value, used);

@@ -266,6 +266,14 @@ fn are_nodes(nodes: &[NodeRun], wants: &[Node]) -> bool {
             .all(|(node, want)| is_node(node, want))
 }
 
+// The run's own of a row's finished runs: the last, where it ends with a value.
+fn own_nodes(row: &Row) -> &'static [Node] {
+    match row.end {
+        End::Value(_, _) => &row.nodes[row.nodes.len().saturating_sub(1)..],
+        _ => &[],
+    }
+}
+
 // Whether each way to run it comes to what a row says, and tells its finished runs.
 fn comes_to(evaluator: &mut Evaluator, alloc: Global, row: &Row) -> Result<bool, Fail> {
     let store = parse_store(alloc, row.text.as_bytes())?;
@@ -275,8 +283,11 @@ fn comes_to(evaluator: &mut Evaluator, alloc: Global, row: &Row) -> Result<bool,
     let alone = outcome_alone(alloc, &store, row.name, arg, row.limit)?;
     let later = evaluator.outcome_alone(&store, row.name, arg, row.limit)?;
     let kept = evaluator.evaluate_alone(&store, row.name, arg, row.limit)?;
-    let ends = run.outcome == want && alone == want && later == want && kept.outcome == want;
-    Ok(ends && are_nodes(run.nodes.list(), row.nodes) && are_nodes(kept.nodes.list(), row.nodes))
+    let own = evaluator.evaluate_own(&store, row.name, arg, row.limit)?;
+    let ends = run.outcome == want && alone == want && later == want;
+    let kept_ends = kept.outcome == want && own.outcome == want;
+    let all = are_nodes(run.nodes.list(), row.nodes) && are_nodes(kept.nodes.list(), row.nodes);
+    Ok(ends && kept_ends && all && are_nodes(own.nodes.list(), own_nodes(row)))
 }
 
 #[test]
