@@ -87,22 +87,21 @@ module _ (old : Slots) (all frames : List NodeRun) (fresh : IsFresh old all fram
   among : (r : NodeRun) → Contains frames r → Contains all r
   among r at = elim fresh [
     | inl e ↦ subst (λ (l : List NodeRun). Contains l r) e at
-    | inr f ↦ subst (λ (l : List NodeRun). Contains l r) (sym f.2)
-        (Contains-append_right f.0 (f.1 ∷ []) r (subst (λ (l : List NodeRun). Contains l r) f.3 at))
+    | inr f ↦ subst (λ (l : List NodeRun). Contains l r) (sym f.1.1) (Contains-append_right f.1.0 frames r at)
   ]
 
   called_there : (r : NodeRun) → Contains frames r → (node : NodeRun) (to : Pair) → Contains all node → Contains r.calls to → Contains frames node ⊎ IsSome (old to).entry
   called_there r at node to here called = elim fresh [
     | inl e ↦ inl (subst (λ (l : List NodeRun). Contains l node) (sym e) here)
-    | inr f ↦ inr (f.4 to (subst (λ (z : NodeRun). Contains z.calls to) (sym (only frames f.1 r f.3 at)) called))
+    | inr f ↦ inr (f.0.stand to (subst (λ (z : NodeRun). Contains z.calls to) (sym (only frames f.0.own r f.0.only at)) called))
   ]
 
   last_there : (front : List NodeRun) (own : NodeRun) → all ≡ front ++ own ∷ [] → Contains frames own
   last_there front own is = elim fresh [
     | inl e ↦ subst (λ (l : List NodeRun). Contains l own) (sym (e ∙ is)) (Contains-append_right front (own ∷ []) own (cons-here own []))
     | inr f ↦
-        let same : f.1 ≡ own = same_last f.0 front f.1 own (sym f.2 ∙ is) in
-        subst (λ (l : List NodeRun). Contains l own) (sym f.3) (subst (λ (z : NodeRun). Contains (z ∷ []) own) (sym same) (cons-here own []))
+        let same : f.0.own ≡ own = same_last f.1.0 front f.0.own own (ap (λ (l : List NodeRun). f.1.0 ++ l) (sym f.0.only) ∙ sym f.1.1 ∙ is) in
+        subst (λ (l : List NodeRun). Contains l own) (sym f.0.only) (subst (λ (z : NodeRun). Contains (z ∷ []) own) (sym same) (cons-here own []))
   ]
 
 -- ---- the checked runs of a store

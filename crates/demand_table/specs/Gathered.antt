@@ -40,11 +40,15 @@ pub record AreLiveRuns (s : Store) (w : Slots) (callers : Index) (Listed : Pair 
 abbrev pub IsGathered : Store → Folders → Gathered → Type 0
 IsGathered s folders g = AreLiveRuns s (slots_of folders g.work) g.callers (Contains g.pairs.items) g.stand
 
+-- There is one frame, and all that its run calls stands already.
+pub record HasItsCalls (w : Slots) (nodes : List NodeRun) : Type 0 where
+  pub own : NodeRun
+  pub only : nodes ≡ own ∷ []
+  pub stand : (to : Pair) → Contains own.calls to → IsSome (w to).entry
+
 -- all frames of a run are put in, or the last alone, where all that it calls stands already
 abbrev pub IsFresh : Slots → List NodeRun → List NodeRun → Type 0
-IsFresh w all fresh =
-    (fresh ≡ all)
-    ⊎ ((front : List NodeRun) × (own : NodeRun) × (all ≡ front ++ own ∷ []) × (fresh ≡ own ∷ []) × ((to : Pair) → Contains own.calls to → IsSome (w to).entry))
+IsFresh w all fresh = (fresh ≡ all) ⊎ (HasItsCalls w fresh × ((front : List NodeRun) × (all ≡ front ++ fresh)))
 
 -- the run of a pair was gathered
 abbrev pub HasRunAt : Folders → Gathered → Pair → Type 0

@@ -1,9 +1,10 @@
 //! The runs of a store's checked arguments, and all that they call, in slots.
 
-ghost use Rattle.std.specs.Prelude.{◌≡◌, ◌<◌, ◌≤◌, ℕ, IfOk, pos};
-ghost use Rattle.program_store.specs.Store.{checked_at};
-ghost use Rattle.seq_calls.specs.Frames.{pair};
-ghost use Rattle.demand_table.specs.Gathered.{IsUndrawn, IsGathered, IsFresh, HasRunAt, KeepsRuns, HasFirstRuns, HasRunsUpTo};
+ghost use Rattle.std.specs.Prelude.{◌≡◌, ◌<◌, ◌≤◌, ℕ, IfOk, IsTrue, pos};
+ghost use Rattle.loda_semantics.specs.Exec.{run_name};
+ghost use Rattle.program_store.specs.Store.{programs_of, checked_at};
+ghost use Rattle.seq_calls.specs.Frames.{pair, nodes_of};
+ghost use Rattle.demand_table.specs.Gathered.{IsUndrawn, IsGathered, HasItsCalls, IsFresh, HasRunAt, KeepsRuns, HasFirstRuns, HasRunsUpTo};
 ghost use Rattle.demand_table.specs.Loaded.{slots_of};
 ghost use Rattle.demand_table.specs.Nodes.{HasCheckedValues};
 
@@ -13,10 +14,10 @@ use crate::names::Names;
 use crate::reaching::with_runs;
 use crate::standing::all_stand;
 use crate::work::Work;
-use checked_numbers::number_of;
+use checked_numbers::{Num, number_of};
 use loda_semantics::Pair;
 use program_store::{Store, View};
-use seq_calls::{Evaluator, NodeRun};
+use seq_calls::{Evaluator, Frames, NodeRun};
 use std::alloc::{AllocError, Global};
 use std::collections::BTreeMap;
 use version_pages::Pages;
@@ -71,8 +72,16 @@ fn with_run(
         mut pairs,
         stand,
     } = gathered;
-    let run = evaluator.evaluate_alone(store, name, number_of(index), limit)?;
-    let nodes = fresh(known, &work, run.nodes.list());
+    let frames = fresh(
+        store,
+        limit,
+        known,
+        &work,
+        evaluator,
+        name,
+        number_of(index),
+    )?;
+    let nodes = frames.list();
     let stand = put_all(alloc, known, &mut work, nodes, &mut pairs, stand)?;
     let callers = with_runs(alloc, &callers, nodes)?;
     Ok(Gathered {
@@ -83,20 +92,34 @@ fn with_run(
     })
 }
 
-// The frames of a run that are to be put in: all of them, or where all that it calls itself stands already, only its own, which
-// is the last.
-fn fresh<'n>(known: &Known<'_>, work: &Work, nodes: &'n [NodeRun]) -> &'n [NodeRun]
-    ensures { IsFresh (slots_of known.now.pages.now work.now) nodes.now result.now }
+// Whether there is one frame, and all that its run calls stands.
+fn has_its_calls(known: &Known<'_>, work: &Work, nodes: &[NodeRun]) -> bool
+    ensures { IsTrue result → HasItsCalls (slots_of known.now.pages.now work.now) nodes.now }
 {
-    let count = nodes.len();
-    if count == 0 {
-        return nodes;
+    match nodes {
+        [own] => all_stand(known, work, own.calls.list()),
+        _ => false,
     }
-    let last = count - 1;
-    if all_stand(known, work, nodes[last].calls.list()) {
-        return &nodes[last..];
+}
+
+// The frames of a run that are to be put in: only its own, where all that it calls itself stands already, or else all of them.
+fn fresh(
+    store: &Store,
+    limit: u64,
+    known: &Known<'_>,
+    work: &Work,
+    evaluator: &mut Evaluator,
+    name: u32,
+    arg: Num,
+) -> Result<Frames, AllocError>
+    ensures { IfOk result (IsFresh (slots_of known.now.pages.now work.now) (nodes_of name arg (run_name (programs_of store.now) name arg limit))) }
+{
+    let own = evaluator.evaluate_own(store, name, arg, limit)?;
+    if has_its_calls(known, work, own.nodes.list()) {
+        return Ok(own.nodes);
     }
-    nodes
+    let run = evaluator.evaluate_alone(store, name, arg, limit)?;
+    Ok(run.nodes)
 }
 
 // With the runs of all checked arguments of a name.

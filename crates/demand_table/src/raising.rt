@@ -38,6 +38,9 @@ pub fn raise_all(
 ) -> Result<(), AllocError>
     ensures { OnOk result (AreRaised (slots_of known.now.pages.now work.old) (slots_of known.now.pages.now work.new) calls.now) }
 {
+    if let [call] = calls {
+        return raise(alloc, known, work, call);
+    }
     let mut met: BTreeSet<(u32, Num)> = BTreeSet::new(alloc);
     for call in calls {
         if met.insert((call.name, call.arg))? {

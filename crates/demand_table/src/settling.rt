@@ -1,7 +1,6 @@
 //! The totals of runs.
 
-ghost use Rattle.std.specs.Prelude.{◌≡◌, ◌+◌, ◌<◌, ◌≤◌, ◌^◌, ℕ, [], length, IfOk, IfSome, IfNone, OnOk, IsSome, Contains, sum_by, slice_index_or};
-ghost use Rattle.std.specs.List.{AllWithin, HoldsAt};
+ghost use Rattle.std.specs.Prelude.{◌≡◌, ◌+◌, ◌<◌, ◌≤◌, ◌^◌, ℕ, [], length, IfOk, IfSome, IfErr, OnOk, IsSome, Contains, sum_by, slice_index_or};
 ghost use Rattle.std.specs.declared.option.Option.TheVariants.{None, Some};
 ghost use Rattle.loda_semantics.specs.declared.kinds.Pair.{Pair};
 ghost use Rattle.demand_table.specs.declared.entry.Entry.{Entry};
@@ -13,11 +12,9 @@ use crate::entry::Entry;
 use crate::frame::Frame;
 use crate::holding::Known;
 use crate::known;
-use crate::slot::Slot;
-use crate::slots::{load, store, touched};
+use crate::slots::touched;
 use crate::step::Step;
 use crate::work::Work;
-use checked_numbers::Num;
 use loda_semantics::Pair;
 use std::alloc::{AllocError, Global};
 
@@ -48,32 +45,28 @@ fn run<'w>(known: &Known<'_>, work: &'w Work, pair: &Pair) -> &'w Entry
     }
 }
 
-// Writes the total of a pair.
-fn set_total(
-    alloc: Global,
-    known: &Known<'_>,
-    work: &mut Work,
-    pair: &Pair,
-    total: u64,
-) -> Result<(), AllocError>
-    ensures { OnOk result (IsSet (slots_of known.now.pages.now work.old) (slots_of known.now.pages.now work.new) pair.now (with_total (slots_of known.now.pages.now work.old pair.now) total)) }
+// Writes the total of a pair whose total is not known. Its slot was touched, since the old table knows its totals.
+fn set_total(known: &Known<'_>, work: &mut Work, pair: &Pair, total: u64)
+    requires { IsUnsettled (slots_of known.now.pages.now work.old) pair.now }
+    ensures { IsSet (slots_of known.now.pages.now work.old) (slots_of known.now.pages.now work.new) pair.now (with_total (slots_of known.now.pages.now work.old pair.now) total) }
 {
-    let slot = load(alloc, known, work, pair)?;
-    let new = Slot {
-        callers: slot.callers,
-        entry: slot.entry,
-        total: Some(total),
-    };
-    store(alloc, known, work, pair, new)?;
-    Ok(())
+    match work.touched.get_mut(&pair.name) {
+        Some(slots) => match slots.get_mut(&pair.arg) {
+            Some(slot) => slot.total = Some(total),
+            None => unreachable!(),
+        },
+        None => unreachable!(),
+    }
 }
 
-// The first place from `from` on at which the total isn't known.
-fn first_unknown(known: &Known<'_>, work: &Work, calls: &[Pair], from: usize) -> Option<usize>
+// The first place from `from` on at which the total isn't known. From 0 on the sum finds it.
+fn next_unknown(known: &Known<'_>, work: &Work, calls: &[Pair], from: usize) -> Option<usize>
     ensures range { IfSome result (λ at. at < length calls.now) }
     ensures found { IfSome result (λ at. (d : Pair) → (slots_of known.now.pages.now work.now (slice_index_or calls.now at d)).total ≡ None) }
-    ensures none { IfNone result (AllWithin (λ q. IsSome (slots_of known.now.pages.now work.now q).total) calls.now from (length calls.now)) }
 {
+    if from == 0 {
+        return None;
+    }
     for at in from..calls.len() {
         let call = calls[at];
         if total(known, work, &call).is_none() {
@@ -83,20 +76,23 @@ fn first_unknown(known: &Known<'_>, work: &Work, calls: &[Pair], from: usize) ->
     None
 }
 
-// A run's own steps and the totals of its calls, all of which are known.
-fn sum(known: &Known<'_>, work: &Work, own: u64, calls: &[Pair]) -> u64
+// A run's own steps and the totals of its calls, or the first place at which a total isn't known.
+fn summed(known: &Known<'_>, work: &Work, own: u64, calls: &[Pair]) -> Result<u64, usize>
     requires stand { (q : Pair) → Contains calls.now q → IsSome (slots_of known.now.pages.now work.now q).entry }
-    requires known { (q : Pair) → Contains calls.now q → IsSome (slots_of known.now.pages.now work.now q).total }
     requires fits { (t : Pair → ℕ) × AreRight (slots_of known.now.pages.now work.now) t × (own + sum_by t calls.now < 2 ^ 64) }
-    ensures { (t : Pair → ℕ) → AreRight (slots_of known.now.pages.now work.now) t → result ≡ own + sum_by t calls.now }
+    ensures sum { IfOk result (λ sum. (t : Pair → ℕ) → AreRight (slots_of known.now.pages.now work.now) t → sum ≡ own + sum_by t calls.now) }
+    ensures range { IfErr result (λ at. at < length calls.now) }
+    ensures found { IfErr result (λ at. (d : Pair) → (slots_of known.now.pages.now work.now (slice_index_or calls.now at d)).total ≡ None) }
 {
     let mut sum = own;
-    for call in calls {
-        if let Some(total) = total(known, work, call) {
-            sum += total;
+    for at in 0..calls.len() {
+        let call = calls[at];
+        match total(known, work, &call) {
+            Some(total) => sum += total,
+            None => return Err(at),
         }
     }
-    sum
+    Ok(sum)
 }
 
 // What the walk finds at a pair.
@@ -107,19 +103,19 @@ fn step(known: &Known<'_>, work: &Work, pair: &Pair, from: usize) -> Step
 {
     let entry = run(known, work, pair);
     let calls = entry.calls.list();
-    if let Some(at) = first_unknown(known, work, calls, from) {
+    if let Some(at) = next_unknown(known, work, calls, from) {
         return Step::Waits {
             at,
             call: calls[at],
         };
     }
-    if let Some(at) = first_unknown(known, work, calls, 0) {
-        return Step::Waits {
+    match summed(known, work, entry.own, calls) {
+        Ok(total) => Step::Total(total),
+        Err(at) => Step::Waits {
             at,
             call: calls[at],
-        };
+        },
     }
-    Step::Total(sum(known, work, entry.own, calls))
 }
 
 // Settles the total of a pair, and first those of the calls on which it waits, with a stack of the pairs that wait, whose memory
@@ -149,7 +145,7 @@ fn settle(
     while let Some(frame) = stack.pop() {
         match step(known, work, &frame.pair, frame.from) {
             Step::Total(total) => {
-                set_total(alloc, known, work, &frame.pair, total)?;
+                set_total(known, work, &frame.pair, total);
                 left -= 1;
             }
             Step::Waits { at, call } => {

@@ -1,8 +1,9 @@
 use Rattle.std.proofs.Math.Facts.{Fits-lt-pow}
-use Rattle.std.proofs.Common.{◌<◌, ◌^◌, ◌∙◌, ap, pos}
+use Rattle.std.proofs.Common.{◌<◌, ◌^◌, ◌∙◌, sym, subst, ap, pos}
 use Rattle.loda_semantics.specs.Exec.{run_name}
 use Rattle.program_store.specs.Store.{programs_of}
 use Rattle.seq_calls.specs.Frames.{nodes_of}
+use Rattle.demand_table.specs.Gathered.{IsFresh}
 use Rattle.demand_table.specs.Loaded.{slots_of}
 use Rattle.demand_table.proofs.Gathers.{same_run, keeps_runs, one_more_run, run_there}
 use Rattle.demand_table.proofs.gathering.with_run.Goals as goal
@@ -15,9 +16,11 @@ returns-clause-gathered c =
     let i = c.args.index in
     let f = c.args.known.now.pages.now in
     let g = c.args.gathered in
-    let are = c.list.ensures ∙ c.in_ok-run.ensures.nodes ∙ ap (λ x. nodes_of q x (run_name (programs_of s) q x c.args.limit)) c.number_of.ensures ∙ ap (nodes_of q (pos i)) (same_run s c.args.limit fits c.requires.values q i c.requires.checked) in
+    let all = nodes_of q c.number_of.result (run_name (programs_of s) q c.number_of.result c.args.limit) in
+    let fresh = subst (IsFresh (slots_of f g.work) all) (sym c.list-nodes.ensures) c.in_ok-frames.ensures in
+    let are = ap (λ x. nodes_of q x (run_name (programs_of s) q x c.args.limit)) c.number_of.ensures ∙ ap (nodes_of q (pos i)) (same_run s c.args.limit fits c.requires.values q i c.requires.checked) in
     one_more_run s c.args.limit fits c.requires.values q i c.requires.checked (slots_of f g.work) (slots_of f c.put_all.new.work) g.callers c.in_ok-callers.callers g.pairs.items c.put_all.new.pending.items g.stand c.in_ok-stand.stand
-    c.list.result.now c.fresh-nodes.result.now are c.fresh-nodes.ensures c.requires.gathered c.in_ok-stand.ensures c.in_ok-callers.ensures.grows c.in_ok-callers.ensures.runs
+    all c.list-nodes.result.now are fresh c.requires.gathered c.in_ok-stand.ensures c.in_ok-callers.ensures.grows c.in_ok-callers.ensures.runs
 
 pub returns-clause-keeps : goal.returns-clause-keeps
 returns-clause-keeps c =
@@ -27,9 +30,11 @@ returns-clause-keeps c =
     let i = c.args.index in
     let f = c.args.known.now.pages.now in
     let g = c.args.gathered in
-    let are = c.list.ensures ∙ c.in_ok-run.ensures.nodes ∙ ap (λ x. nodes_of q x (run_name (programs_of s) q x c.args.limit)) c.number_of.ensures ∙ ap (nodes_of q (pos i)) (same_run s c.args.limit fits c.requires.values q i c.requires.checked) in
+    let all = nodes_of q c.number_of.result (run_name (programs_of s) q c.number_of.result c.args.limit) in
+    let fresh = subst (IsFresh (slots_of f g.work) all) (sym c.list-nodes.ensures) c.in_ok-frames.ensures in
+    let are = ap (λ x. nodes_of q x (run_name (programs_of s) q x c.args.limit)) c.number_of.ensures ∙ ap (nodes_of q (pos i)) (same_run s c.args.limit fits c.requires.values q i c.requires.checked) in
     keeps_runs s c.args.limit fits c.requires.values q i c.requires.checked (slots_of f g.work) (slots_of f c.put_all.new.work) g.callers c.in_ok-callers.callers g.pairs.items c.put_all.new.pending.items g.stand c.in_ok-stand.stand
-    c.list.result.now c.fresh-nodes.result.now are c.fresh-nodes.ensures c.requires.gathered c.in_ok-stand.ensures c.in_ok-callers.ensures.grows c.in_ok-callers.ensures.runs
+    all c.list-nodes.result.now are fresh c.requires.gathered c.in_ok-stand.ensures c.in_ok-callers.ensures.grows c.in_ok-callers.ensures.runs
 
 pub returns-clause-here : goal.returns-clause-here
 returns-clause-here c =
@@ -39,6 +44,8 @@ returns-clause-here c =
     let i = c.args.index in
     let f = c.args.known.now.pages.now in
     let g = c.args.gathered in
-    let are = c.list.ensures ∙ c.in_ok-run.ensures.nodes ∙ ap (λ x. nodes_of q x (run_name (programs_of s) q x c.args.limit)) c.number_of.ensures ∙ ap (nodes_of q (pos i)) (same_run s c.args.limit fits c.requires.values q i c.requires.checked) in
+    let all = nodes_of q c.number_of.result (run_name (programs_of s) q c.number_of.result c.args.limit) in
+    let fresh = subst (IsFresh (slots_of f g.work) all) (sym c.list-nodes.ensures) c.in_ok-frames.ensures in
+    let are = ap (λ x. nodes_of q x (run_name (programs_of s) q x c.args.limit)) c.number_of.ensures ∙ ap (nodes_of q (pos i)) (same_run s c.args.limit fits c.requires.values q i c.requires.checked) in
     run_there s c.args.limit fits c.requires.values q i c.requires.checked (slots_of f g.work) (slots_of f c.put_all.new.work) g.callers c.in_ok-callers.callers g.pairs.items c.put_all.new.pending.items g.stand c.in_ok-stand.stand
-    c.list.result.now c.fresh-nodes.result.now are c.fresh-nodes.ensures c.requires.gathered c.in_ok-stand.ensures c.in_ok-callers.ensures.grows c.in_ok-callers.ensures.runs
+    all c.list-nodes.result.now are fresh c.requires.gathered c.in_ok-stand.ensures c.in_ok-callers.ensures.grows c.in_ok-callers.ensures.runs

@@ -21,6 +21,11 @@ step-requires-clause-unsettled c =
     let w = slots_of c.args.known.now.pages.now c.loop-frame.work in
     top_open w c.pop.new.self.items c.in-Some.frame c.loop-frame.left (with_top w c.loop-frame.stack.items c.pop.new.self.items c.in-Some.frame c.loop-frame.left c.in-Some.ensures.items c.loop-frame.invariant.stacked)
 
+pub set_total-requires : goal.set_total-requires
+set_total-requires c =
+    let w = slots_of c.args.known.now.pages.now c.loop-frame.work in
+    top_open w c.pop.new.self.items c.in-Some.frame c.loop-frame.left (with_top w c.loop-frame.stack.items c.pop.new.self.items c.in-Some.frame c.loop-frame.left c.in-Some.ensures.items c.loop-frame.invariant.stacked)
+
 pub overflow_sub-left : goal.overflow_sub-left
 overflow_sub-left c =
     let few = stack_few (slots_of c.args.known.now.pages.now c.loop-frame.work) c.loop-frame.stack.items c.loop-frame.left c.loop-frame.invariant.stacked in
@@ -40,7 +45,7 @@ loop-frame-preserved-in-Total c =
     let f = c.in-Some.frame in
     let stack = c.pop.new.self.items in
     let left = c.loop-frame.left in
-    let set = c.in_ok-set_total-in-Total.ensures in
+    let set = c.set_total.ensures in
     let h = with_top w c.loop-frame.stack.items stack f left c.in-Some.ensures.items c.loop-frame.invariant.stacked in
     let next = settled_top w new f.pair c.in-Total.total set stack f left refl h (c.in-Total.ensures h.settling.can) in
     let fewer : next.0 ≡ left - 1 = let e = next.1 in omega arith in
