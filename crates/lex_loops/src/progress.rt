@@ -281,7 +281,7 @@ impl Progress {
     }
 
     /// Runs on through a list of instructions, up to its end, its next call, a fault, or a cost greater than the budget.
-    #[inline(always)]
+    #[inline(never)]
     pub fn run(&mut self, list: &[Instr], budget: &mut u64) -> Result<Stop, AllocError>
         requires program { IsProgram list.now }
         requires under_way { IsUnderWay list.now self.old }
