@@ -459,10 +459,57 @@ fn first_unlike_built(alloc: Global, terms: &TermTable) -> Result<Option<&'stati
     Ok(None)
 }
 
+// The next of a row of draws.
+fn drawn(state: u32) -> u32 {
+    state.wrapping_mul(1_664_525).wrapping_add(1_013_904_223)
+}
+
+// Puts in what is drawn, thirty times, and passes over what is refused. How many were put in, or none where the tables after one of
+// them are not as built.
+fn put_in_by_draws(alloc: Global, terms: &TermTable, seed: u32) -> Result<Option<u32>, AllocError>
+    requires bounded { IsBounded terms.now }
+{
+    let Ok(empty) = parse_store(alloc, b"") else {
+        return Ok(None);
+    };
+    let Some(mut tables) = tables_of(alloc, &empty, terms)? else {
+        return Ok(None);
+    };
+    let mut state = seed;
+    let mut many = 0u32;
+    for _ in 0..30 {
+        state = drawn(state);
+        let text = PUT_IN[(state >> 16) as usize % 13];
+        let Some(put) = after_put(alloc, tables.share()?, terms, text)? else {
+            continue;
+        };
+        if !are_as_built(alloc, &put, terms)? {
+            return Ok(None);
+        }
+        tables = put.tables;
+        many = many.saturating_add(1);
+    }
+    Ok(Some(many))
+}
+
 #[test]
 fn mended_tables_are_as_built(rt: HostRuntime) -> Result<(), Fail> {
     let alloc = rt.alloc();
     let terms = read_terms(alloc, &mut shelf_of(alloc, SUMS)?, "t")?;
     assert_eq!(rt; first_unlike_built(alloc, &terms)?, None);
+    Ok(())
+}
+
+#[test]
+fn drawn_tables_are_as_built(rt: HostRuntime) -> Result<(), Fail> {
+    let alloc = rt.alloc();
+    let terms = read_terms(alloc, &mut shelf_of(alloc, SUMS)?, "t")?;
+    let mut all = 0u32;
+    for seed in 0..8 {
+        let many = put_in_by_draws(alloc, &terms, seed)?;
+        assert!(rt; many.is_some(), "the draws of {seed}");
+        all = all.saturating_add(many.unwrap_or(0));
+    }
+    assert!(rt; all >= 40, "{all} were put in");
     Ok(())
 }
